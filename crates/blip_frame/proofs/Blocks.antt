@@ -16,7 +16,7 @@ use Rattle.std.proofs.Math.Seq.{drop-cons}
 use Rattle.memchr.specs.Find.{IsFirstByte, is_byte}
 use Rattle.blip_frame.specs.declared.props.Prop.{Prop}
 use Rattle.blip_frame.specs.Props.{Pair, pair_of, pairs_of, keys_of, stands_twice, AreUtf8}
-use Rattle.blip_frame.specs.Payload.{is_closed, begun, texts_of, paired, text_len}
+use Rattle.blip_frame.specs.Payload.{is_closed, begun, closed_texts, paired, text_len}
 
 -- ---- the end of a block
 
@@ -33,13 +33,13 @@ length-begun : (b : ℕ) (texts : List (List ℕ)) → length (begun b texts) �
 length-begun b [] = refl
 length-begun b (text ∷ texts) = refl
 
-pub length-texts_of : (bs : List ℕ) → length (texts_of bs) ≡ count_by (λ b. eqb b 0) bs
-length-texts_of = is_count_by (λ bs. length (texts_of bs)) (λ b. eqb b 0) refl step where
-  step : (b : ℕ) (bs : List ℕ) → length (texts_of (b ∷ bs)) ≡ cond (eqb b 0) (1 + length (texts_of bs)) (length (texts_of bs))
+pub length-texts_of : (bs : List ℕ) → length (closed_texts bs) ≡ count_by (λ b. eqb b 0) bs
+length-texts_of = is_count_by (λ bs. length (closed_texts bs)) (λ b. eqb b 0) refl step where
+  step : (b : ℕ) (bs : List ℕ) → length (closed_texts (b ∷ bs)) ≡ cond (eqb b 0) (1 + length (closed_texts bs)) (length (closed_texts bs))
   step b bs =
       elim (cases_Bool (eqb b 0)) [
         | inl is ↦ rw is (omega arith)
-        | inr off ↦ rw off (length-begun b (texts_of bs))
+        | inr off ↦ rw off (length-begun b (closed_texts bs))
       ]
 
 -- ---- the first text
@@ -48,7 +48,7 @@ length-texts_of = is_count_by (λ bs. length (texts_of bs)) (λ b. eqb b 0) refl
 pub record First (bs : List ℕ) : Type 0 where
   pub within : text_len bs < length bs
   pub nul : get_or bs (text_len bs) 0 ≡ 0
-  pub texts : texts_of bs ≡ take (text_len bs) bs ∷ texts_of (drop (text_len bs + 1) bs)
+  pub texts : closed_texts bs ≡ take (text_len bs) bs ∷ closed_texts (drop (text_len bs + 1) bs)
   pub rest : is_closed (drop (text_len bs + 1) bs) ≡ true
 
 after_nul : (b : ℕ) (bs : List ℕ) → eqb b 0 ≡ true → is_closed (b ∷ bs) ≡ true → is_closed bs ≡ true
@@ -73,8 +73,8 @@ past_byte b bs off f =
       texts =
           rw off refl
           ∙ ap (begun b) f.texts
-          ∙ ap (λ (i : ℕ). take i (b ∷ bs) ∷ texts_of (drop (text_len bs + 1) bs)) (sym n)
-          ∙ ap (λ (i : ℕ). take (text_len (b ∷ bs)) (b ∷ bs) ∷ texts_of (drop i (b ∷ bs))) (sym m);
+          ∙ ap (λ (i : ℕ). take i (b ∷ bs) ∷ closed_texts (drop (text_len bs + 1) bs)) (sym n)
+          ∙ ap (λ (i : ℕ). take (text_len (b ∷ bs)) (b ∷ bs) ∷ closed_texts (drop i (b ∷ bs))) (sym m);
       rest = ap (λ (i : ℕ). is_closed (drop i (b ∷ bs))) m ∙ f.rest;
     }
 
@@ -143,7 +143,7 @@ utf8_around bs k lt nul =
     (IsUtf8-append (take k bs) (0 ∷ []) (IsUtf8-from_is_utf8 (take k bs) front) one_nul)
     (IsUtf8-from_is_utf8 (drop (k + 1) bs) back))))
 
-texts_within : (n : ℕ) (bs : List ℕ) → length bs < n → is_closed bs ≡ true → list_all is_utf8 (texts_of bs) ≡ is_utf8 bs
+texts_within : (n : ℕ) (bs : List ℕ) → length bs < n → is_closed bs ≡ true → list_all is_utf8 (closed_texts bs) ≡ is_utf8 bs
 texts_within zero bs lt h = absurd (omega arith)
 texts_within (suc n) [] lt h = sym (is_utf8-from_IsUtf8 [] IsUtf8-nil)
 texts_within (suc n) (b ∷ bs) lt h =
@@ -155,7 +155,7 @@ texts_within (suc n) (b ∷ bs) lt h =
     ∙ utf8_around whole k f.within f.nul
 
 -- the texts of a block are UTF-8 where it is
-pub texts_utf8 : (bs : List ℕ) → is_closed bs ≡ true → list_all is_utf8 (texts_of bs) ≡ is_utf8 bs
+pub texts_utf8 : (bs : List ℕ) → is_closed bs ≡ true → list_all is_utf8 (closed_texts bs) ≡ is_utf8 bs
 texts_utf8 bs h = texts_within (length bs + 1) bs (omega arith) h
 
 pub not_utf8 : (text : List ℕ) → ¬ (IsUtf8 text) → is_utf8 text ≡ false

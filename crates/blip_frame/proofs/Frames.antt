@@ -11,9 +11,9 @@ use Rattle.blip_frame.specs.declared.frame.Kind.TheVariants as kinds
 use Rattle.blip_frame.specs.declared.frame.FrameFault.{FrameFault}
 use Rattle.blip_frame.specs.declared.frame.FrameFault.TheVariants as faults
 use Rattle.blip_frame.specs.declared.varint.VarintFault.{VarintFault}
-use Rattle.blip_frame.specs.Checksum.{polynomial, all_ones, after_bit, after_bits, bits_of, checksum, checksum_after}
+use Rattle.blip_frame.specs.Checksum.{polynomial, all_ones, after_bit, after_bits, byte_bits, checksum, checksum_after}
 use Rattle.blip_frame.specs.Varint.{IsRead, number_at, varint}
-use Rattle.blip_frame.specs.Frame.{FrameParts, kind_number, has_checksum, flags_of, trailer, largest_read, largest_written, IsMarkedAsKind, IsWritten, spelling, IsFrame, IsFrameFrom, IsFrameAfter, sent_after, value_after, ◌>>=◌, header, kind_at, is_set, content_at, kept_at, checked_at, frame_at, AreWrittenAfter, all_sent, with_first, with_front, frames_at}
+use Rattle.blip_frame.specs.Frame.{FrameParts, kind_number, has_checksum, flags_of, trailer, largest_read, largest_written, IsMarkedAsKind, IsWritten, spelling, IsFrame, IsFrameFrom, IsFrameAfter, payload_sent_after, value_after, ◌>>=◌, header, kind_at, is_set, content_at, checksum_at, checked_at, frame_at, AreWrittenAfter, all_sent, with_first, with_front, frames_at}
 use Rattle.blip_frame.proofs.Register.{checksum_after-checksum}
 use Rattle.blip_frame.proofs.Varints.{IsBytes, IsBytes-drop, IsBytes-after, number_taken, number_again, varint_shortest, shortest_one, varint_read, numbers_apart}
 
@@ -54,11 +54,11 @@ bits_below r (bit ∷ bits) h = bits_below (after_bit r bit) bits (bit_below r b
 pub checksum_after-below : (value : ℕ) (bytes : List ℕ) → value < 2 ^ 32 → checksum_after value bytes < 2 ^ 32
 unfolding checksum_after
 checksum_after-below value bytes h =
-    xor_lt 32 all_ones (after_bits (bit_xor all_ones value) (flat_map bits_of bytes)) (omega arith) (bits_below (bit_xor all_ones value) (flat_map bits_of bytes) (xor_lt 32 all_ones value (omega arith) h))
+    xor_lt 32 all_ones (after_bits (bit_xor all_ones value) (flat_map byte_bits bytes)) (omega arith) (bits_below (bit_xor all_ones value) (flat_map byte_bits bytes) (xor_lt 32 all_ones value (omega arith) h))
 
 pub checksum-below : (bytes : List ℕ) → checksum bytes < 2 ^ 32
 unfolding checksum
-checksum-below bytes = xor_lt 32 all_ones (after_bits all_ones (flat_map bits_of bytes)) (omega arith) (bits_below all_ones (flat_map bits_of bytes) (omega arith))
+checksum-below bytes = xor_lt 32 all_ones (after_bits all_ones (flat_map byte_bits bytes)) (omega arith) (bits_below all_ones (flat_map byte_bits bytes) (omega arith))
 
 -- ---- flags
 
@@ -152,13 +152,13 @@ record Taken (b : Bool) (value : ℕ) (rest : List ℕ) (x : Content) (after : �
   pub after_is : after ≡ after_payload b value x.0
   pub parts : rest ≡ x.0 ++ behind b value x.0
 
-checked_ok : (value : ℕ) (x : Content) (after : ℕ) → checked_at value x.0 x.1 ≡ Ok after → (length x.0 ≤ largest_read) × (kept_at value x.0 x.1 ≡ Ok after)
+checked_ok : (value : ℕ) (x : Content) (after : ℕ) → checked_at value x.0 x.1 ≡ Ok after → (length x.0 ≤ largest_read) × (checksum_at value x.0 x.1 ≡ Ok after)
 unfolding checked_at
 checked_ok value x after e =
-    let g = guard_ok (ltb largest_read (length x.0)) (faults.TooLong (length x.0)) (kept_at value x.0 x.1) after e in
+    let g = guard_ok (ltb largest_read (length x.0)) (faults.TooLong (length x.0)) (checksum_at value x.0 x.1) after e in
     (ltb-false largest_read (length x.0) g.0, g.1)
 
-kept_ok : (value : ℕ) (payload : List ℕ) (kept after : ℕ) → kept_at value payload (Some kept) ≡ Ok after → (kept ≡ checksum_after value payload) × (after ≡ kept)
+kept_ok : (value : ℕ) (payload : List ℕ) (kept after : ℕ) → checksum_at value payload (Some kept) ≡ Ok after → (kept ≡ checksum_after value payload) × (after ≡ kept)
 kept_ok value payload kept after e =
     elim (chosen (eqb kept (checksum_after value payload)) (comes_to kept) (Err (faults.BadChecksum kept (checksum_after value payload))) (comes_to after) e) [
       | inl h ↦ (eqb-true kept (checksum_after value payload) h.0, let q = h.1 in cc)
@@ -171,7 +171,7 @@ content_taken false value rest x after fits e f =
     let p : ◌≡◌ {A = Content} (rest, None) x = cc in
     let first : rest ≡ x.0 = ap (λ (y : Content). y.0) p in
     let none : ◌≡◌ {A = Option ℕ} None x.1 = ap (λ (y : Content). y.1) p in
-    let is : comes_to value ≡ comes_to after = ap (kept_at value x.0) none ∙ c.1 in
+    let is : comes_to value ≡ comes_to after = ap (checksum_at value x.0) none ∙ c.1 in
     record { size = c.0; after_is = cc; parts = first ∙ sym (append-nil x.0) }
 content_taken true value rest x after fits e f =
     let c = checked_ok value x after f in
@@ -182,7 +182,7 @@ content_taken true value rest x after fits e f =
     let p : ◌≡◌ {A = Content} (take n rest, Some (from_be_bytes w32 last)) x = let q = g.1 in cc in
     let some : Some (from_be_bytes w32 last) ≡ x.1 = ap (λ (y : Content). y.1) p in
     let first : take n rest ≡ x.0 = ap (λ (y : Content). y.0) p in
-    let k = kept_ok value x.0 (from_be_bytes w32 last) after (ap (kept_at value x.0) some ∙ c.1) in
+    let k = kept_ok value x.0 (from_be_bytes w32 last) after (ap (checksum_at value x.0) some ∙ c.1) in
     let back : to_be_bytes w32 (from_be_bytes w32 last) ≡ last = be_bytes_4 last _ (omega (arith, length-drop n rest)) (IsBytes-drop n rest fits) refl in
     record {
       size = c.0;
@@ -297,7 +297,7 @@ frame_again value bytes f fits is =
 
 -- ---- what is sent so far
 
-pub value_after-checksum : (sent : List ℕ) (f : FrameParts) → value_after (checksum sent) f ≡ checksum (sent_after sent f)
+pub value_after-checksum : (sent : List ℕ) (f : FrameParts) → value_after (checksum sent) f ≡ checksum (payload_sent_after sent f)
 value_after-checksum sent f = by (has_checksum f.kind) where
   by : (b : Bool) → cond b (checksum_after (checksum sent) f.payload) (checksum sent) ≡ checksum (cond b (sent ++ f.payload) sent)
   by true = checksum_after-checksum sent f.payload
@@ -348,14 +348,14 @@ written_frame kept bytes f w = record {
 
 -- ---- laws
 
-pub read_again : (sent bytes : List ℕ) (f : FrameParts) → IsFrameAfter sent bytes f → frame_at (checksum sent) bytes ≡ Ok (f, checksum (sent_after sent f))
+pub read_again : (sent bytes : List ℕ) (f : FrameParts) → IsFrameAfter sent bytes f → frame_at (checksum sent) bytes ≡ Ok (f, checksum (payload_sent_after sent f))
 read_again sent bytes f is =
     let from : IsFrameFrom (checksum sent) bytes f = subst (λ (v : ℕ). IsFrame v bytes f) (sym (value_after-checksum sent f)) is in
     frame_again (checksum sent) bytes f (checksum-below sent) from ∙ ap (λ (v : ℕ). whole (f, v)) (value_after-checksum sent f)
 
 pub one_frame : (sent bytes : List ℕ) (f g : FrameParts) → IsFrameAfter sent bytes f → IsFrameAfter sent bytes g → f ≡ g
 one_frame sent bytes f g p q =
-    ap (λ (w : Whole). w.0) (whole_is (f, checksum (sent_after sent f)) (g, checksum (sent_after sent g)) (sym (read_again sent bytes f p) ∙ read_again sent bytes g q))
+    ap (λ (w : Whole). w.0) (whole_is (f, checksum (payload_sent_after sent f)) (g, checksum (payload_sent_after sent g)) (sym (read_again sent bytes f p) ∙ read_again sent bytes g q))
 
 pub prefix_alike : (j k : ℕ) (a b more : List ℕ) (f g : FrameParts) → IsFrame j a f → IsFrame k b g → a ++ more ≡ b → (f.number ≡ g.number) × (flags_of f ≡ flags_of g)
 prefix_alike j k a b more f g p q e =
@@ -372,6 +372,6 @@ direction_again sent [] rest [] h = refl
 direction_again sent [] rest (f ∷ frames) h = absurd h
 direction_again sent (bytes ∷ texts) rest [] h = absurd h
 direction_again sent (bytes ∷ texts) rest (f ∷ frames) h =
-    let here = read_again sent bytes f (written_frame (checksum (sent_after sent f)) bytes f h.0) in
+    let here = read_again sent bytes f (written_frame (checksum (payload_sent_after sent f)) bytes f h.0) in
     ap (λ (r : Result Whole FrameFault). r >>= λ found. with_first found.0 (frames_at found.1 (texts ++ rest))) here
-    ∙ ap (with_first f) (direction_again (sent_after sent f) texts rest frames h.1)
+    ∙ ap (with_first f) (direction_again (payload_sent_after sent f) texts rest frames h.1)

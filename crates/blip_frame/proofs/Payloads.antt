@@ -14,7 +14,7 @@ use Rattle.blip_frame.specs.declared.payload.PayloadFault.TheVariants as faults
 use Rattle.blip_frame.specs.declared.varint.VarintFault.{VarintFault}
 use Rattle.blip_frame.specs.Varint.{IsRead, number_at, varint}
 use Rattle.blip_frame.specs.Props.{Pair, keys_of, stands_twice, AreUtf8}
-use Rattle.blip_frame.specs.Payload.{closed, closed_pair, block_of, HasNoNul, AreProps, IsPayload, ◌>>=◌, header, is_closed, begun, texts_of, paired, once_at, texts_at, block_at, payload_at, payload_text}
+use Rattle.blip_frame.specs.Payload.{closed, closed_pair, block_of, HasNoNul, AreProps, IsPayload, ◌>>=◌, payload_header, is_closed, begun, closed_texts, paired, once_at, texts_at, block_at, payload_at, payload_text}
 use Rattle.blip_frame.proofs.Varints.{IsBytes, number_taken, number_again, varint_read}
 
 -- ---- the value of a step that did not fail
@@ -32,7 +32,7 @@ passed_ok : {A : Type 0} (b : Bool) (d : PayloadFault) (r : Result A PayloadFaul
 passed_ok true d r y e = (refl, e)
 passed_ok false d r y e = absurd cc
 
-header_ok : (r : Result (ℕ × List ℕ) VarintFault) (n : ℕ) (rest : List ℕ) → header r ≡ Ok (n, rest) → r ≡ Ok (n, rest)
+header_ok : (r : Result (ℕ × List ℕ) VarintFault) (n : ℕ) (rest : List ℕ) → payload_header r ≡ Ok (n, rest) → r ≡ Ok (n, rest)
 header_ok (Ok x) n rest e = let p : ◌≡◌ {A = ℕ × List ℕ} x (n, rest) = cc in ap (λ (y : ℕ × List ℕ). Ok y) p
 header_ok (Err fault) n rest e = absurd cc
 
@@ -50,28 +50,28 @@ begun_closed b [] c cs e = absurd cc
 begun_closed b (text ∷ texts) c cs e = flat_map-cons closed (b ∷ text) texts ∙ ap (λ (bs : List ℕ). b ∷ bs) (sym (flat_map-cons closed text texts) ∙ e)
 
 -- the texts of a closed block, closed again, are the block
-texts_closed : (bs : List ℕ) → is_closed bs ≡ true → flat_map closed (texts_of bs) ≡ bs
+texts_closed : (bs : List ℕ) → is_closed bs ≡ true → flat_map closed (closed_texts bs) ≡ bs
 texts_closed [] h = refl
 texts_closed (b ∷ bs) h =
     elim (cases_Bool (eqb b 0)) [
-      | inl is ↦ rw is (flat_map-cons closed [] (texts_of bs) ∙ ap (λ (x : List ℕ). 0 ∷ x) (texts_closed bs (after_nul b bs h)) ∙ ap (λ (n : ℕ). n ∷ bs) (sym (eqb-true b 0 is)))
+      | inl is ↦ rw is (flat_map-cons closed [] (closed_texts bs) ∙ ap (λ (x : List ℕ). 0 ∷ x) (texts_closed bs (after_nul b bs h)) ∙ ap (λ (n : ℕ). n ∷ bs) (sym (eqb-true b 0 is)))
       | inr off ↦ rw off (past b bs off h (texts_closed bs (after_nul b bs h)))
     ]
   where
-    past : (b : ℕ) (bs : List ℕ) → eqb b 0 ≡ false → is_closed (b ∷ bs) ≡ true → flat_map closed (texts_of bs) ≡ bs → flat_map closed (begun b (texts_of bs)) ≡ b ∷ bs
+    past : (b : ℕ) (bs : List ℕ) → eqb b 0 ≡ false → is_closed (b ∷ bs) ≡ true → flat_map closed (closed_texts bs) ≡ bs → flat_map closed (begun b (closed_texts bs)) ≡ b ∷ bs
     past b [] off h e = absurd cc
-    past b (c ∷ cs) off h e = begun_closed b (texts_of (c ∷ cs)) c cs e
+    past b (c ∷ cs) off h e = begun_closed b (closed_texts (c ∷ cs)) c cs e
 
 begun_plain : (b : ℕ) (texts : List (List ℕ)) → b ≢ 0 → AllByRecursion Plain texts → AllByRecursion Plain (begun b texts)
 begun_plain b [] ne h = tt
 begun_plain b (text ∷ texts) ne h = ((ne, h.0), h.1)
 
-texts_plain : (bs : List ℕ) → AllByRecursion Plain (texts_of bs)
+texts_plain : (bs : List ℕ) → AllByRecursion Plain (closed_texts bs)
 texts_plain [] = tt
 texts_plain (b ∷ bs) =
     elim (cases_Bool (eqb b 0)) [
       | inl is ↦ rw is (tt, texts_plain bs)
-      | inr off ↦ rw off (begun_plain b (texts_of bs) (λ e. differs b e off) (texts_plain bs))
+      | inr off ↦ rw off (begun_plain b (closed_texts bs) (λ e. differs b e off) (texts_plain bs))
     ]
   where
     differs : (b : ℕ) → b ≡ 0 → eqb b 0 ≡ false → ⊥
@@ -109,7 +109,7 @@ given_is xs ys e = cc
 block_taken : (block : List ℕ) (props : List Pair) → block_at block ≡ Ok props → AreProps props × (block ≡ block_of props)
 unfolding block_at
 block_taken block props e =
-    let texts = texts_of block in
+    let texts = closed_texts block in
     let a = passed_ok (is_closed block) faults.NotClosed (cond (eqb (length texts % 2) 0) (texts_at texts) (Err faults.Odd)) props e in
     let b = passed_ok (eqb (length texts % 2) 0) faults.Odd (texts_at texts) props a.1 in
     let c = passed_ok (list_all is_utf8 texts) faults.NotText (once_at (paired texts)) props b.1 in
@@ -120,7 +120,7 @@ block_taken block props e =
 
 -- ---- properties and their block
 
-texts_cons : (text rest : List ℕ) → Plain text → texts_of (closed text ++ rest) ≡ text ∷ texts_of rest
+texts_cons : (text rest : List ℕ) → Plain text → closed_texts (closed text ++ rest) ≡ text ∷ closed_texts rest
 texts_cons [] rest plain = refl
 texts_cons (b ∷ text) rest plain = rw (ne_eqb b 0 plain.0) (ap (begun b) (texts_cons text rest plain.1))
 
@@ -156,10 +156,10 @@ block_closed : (props : List Pair) → is_closed (block_of props) ≡ true
 block_closed [] = refl
 block_closed (p ∷ props) = ap is_closed (block_cons p props) ∙ closed_cons p.0 (closed p.1 ++ block_of props) (closed_cons p.1 (block_of props) (block_closed props))
 
-block_texts : (props : List Pair) → AllByRecursion HasNoNul props → texts_of (block_of props) ≡ unpaired props
+block_texts : (props : List Pair) → AllByRecursion HasNoNul props → closed_texts (block_of props) ≡ unpaired props
 block_texts [] h = refl
 block_texts (p ∷ props) h =
-    ap texts_of (block_cons p props)
+    ap closed_texts (block_cons p props)
     ∙ texts_cons p.0 (closed p.1 ++ block_of props) (plain p.0 h.0.0)
     ∙ ap (λ (ts : List (List ℕ)). p.0 ∷ ts) (texts_cons p.1 (block_of props) (plain p.1 h.0.1) ∙ ap (λ (ts : List (List ℕ)). p.1 ∷ ts) (block_texts props h.1))
 
@@ -188,7 +188,7 @@ block_in n rest = cond (ltb (length rest) n) (Err faults.Short) (block_at (take 
 abbrev from_size : ℕ × List ℕ → Result Whole PayloadFault
 from_size size = block_in size.0 size.1 >>= λ props. Ok (props, drop size.0 size.1)
 
-payload_at-steps : (bytes : List ℕ) → payload_at bytes ≡ (header (number_at bytes) >>= from_size)
+payload_at-steps : (bytes : List ℕ) → payload_at bytes ≡ (payload_header (number_at bytes) >>= from_size)
 unfolding payload_at
 payload_at-steps bytes = refl
 
@@ -207,7 +207,7 @@ joined bytes rest n props fits e long f =
 -- what is read is a payload
 pub payload_taken : (bytes : List ℕ) (props : List Pair) (body : List ℕ) → IsBytes bytes → payload_at bytes ≡ Ok (props, body) → IsPayload bytes props body
 payload_taken bytes props body fits e =
-    let a = bind_ok (header (number_at bytes)) from_size (props, body) (sym (payload_at-steps bytes) ∙ e) in
+    let a = bind_ok (payload_header (number_at bytes)) from_size (props, body) (sym (payload_at-steps bytes) ∙ e) in
     let b = bind_ok (block_in a.0.0 a.0.1) (λ found. whole (found, drop a.0.0 a.0.1)) (props, body) a.2 in
     let g = guard_ok (ltb (length a.0.1) a.0.0) faults.Short (block_at (take a.0.0 a.0.1)) b.0 b.1 in
     let is = joined bytes a.0.1 a.0.0 b.0 fits (header_ok (number_at bytes) a.0.0 a.0.1 a.1) (ltb-false (length a.0.1) a.0.0 g.0) g.1 in
@@ -219,10 +219,10 @@ payload_again bytes props body is =
     let block = block_of props in
     let n = length block in
     let rest = block ++ body in
-    let one : header (number_at (is.size ++ rest)) ≡ Ok (n, rest) = ap header (number_again is.size n rest is.size_read) in
+    let one : payload_header (number_at (is.size ++ rest)) ≡ Ok (n, rest) = ap payload_header (number_again is.size n rest is.size_read) in
     let two : block_in n rest ≡ Ok props = rw (le-ltb (length rest) n (omega (arith, length-append block body)), take_at block body n refl) (block_again props is.props_fit) in
     payload_at-steps bytes
-    ∙ ap (λ (w : List ℕ). header (number_at w) >>= from_size) is.spelled
+    ∙ ap (λ (w : List ℕ). payload_header (number_at w) >>= from_size) is.spelled
     ∙ ap (λ (r : Result (ℕ × List ℕ) PayloadFault). r >>= from_size) one
     ∙ ap (λ (r : Result (List Pair) PayloadFault). r >>= λ found. whole (found, drop n rest)) two
     ∙ ap (λ (w : List ℕ). whole (props, w)) (drop_at block body n refl)

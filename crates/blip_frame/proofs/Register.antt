@@ -8,7 +8,7 @@ use Rattle.std.proofs.lemmas.List.Concat.{flat_map-append, flat_map-cons}
 use Rattle.std.proofs.lemmas.List.FromFn.{get_or-map-range_with_len}
 use Rattle.std.proofs.lemmas.List.{drop_all, take-append-drop}
 use Rattle.std.proofs.Math.Seq.{drop-cons}
-use Rattle.blip_frame.specs.Checksum.{polynomial, all_ones, after_bit, after_bits, bits_of, checksum_after, checksum}
+use Rattle.blip_frame.specs.Checksum.{polynomial, all_ones, after_bit, after_bits, byte_bits, checksum_after, checksum}
 use Rattle.blip_frame.specs.declared.tables.TheConstants.{TABLE_1, TABLE_2, TABLE_3, TABLE_4, TABLE_5, TABLE_6, TABLE_7, TABLE_8}
 
 -- the register after a bit of 0
@@ -120,12 +120,12 @@ eight : {a0 a1 a2 a3 a4 a5 a6 a7 b0 b1 b2 b3 b4 b5 b6 b7 : ℕ} → a0 ≡ b0 �
     → (a0 ∷ a1 ∷ a2 ∷ a3 ∷ a4 ∷ a5 ∷ a6 ∷ a7 ∷ []) ≡ (b0 ∷ b1 ∷ b2 ∷ b3 ∷ b4 ∷ b5 ∷ b6 ∷ b7 ∷ [])
 eight e0 e1 e2 e3 e4 e5 e6 e7 = cc
 
-eight_bits : (b : ℕ) → bits_of b ≡ low_bits 8 b
+eight_bits : (b : ℕ) → byte_bits b ≡ low_bits 8 b
 unfolding low_bits
 eight_bits b = eight (omega arith) (omega arith) (omega arith) (omega arith) (omega arith) (omega arith) (omega arith) (omega arith)
 
 -- a byte's bits go in as the byte does, before eight bits of 0
-after_byte_is : (r b : ℕ) → b < 256 → after_bits r (bits_of b) ≡ steps 8 (bit_xor r b)
+after_byte_is : (r b : ℕ) → b < 256 → after_bits r (byte_bits b) ≡ steps 8 (bit_xor r b)
 after_byte_is r b h =
     ap (after_bits r) (eight_bits b)
     ∙ sym (xor_zero_r (after_bits r (low_bits 8 b)))
@@ -187,7 +187,7 @@ unfolding on_by
 table_at i h = is_table_1 i h
 
 -- one look into the table takes a byte in
-pub by_table : (r b : ℕ) → b < 256 → bit_xor (get_or TABLE_1 (bit_and (bit_xor r b) 255) 0) (bit_xor r b / 256) ≡ after_bits r (bits_of b)
+pub by_table : (r b : ℕ) → b < 256 → bit_xor (get_or TABLE_1 (bit_and (bit_xor r b) 255) 0) (bit_xor r b / 256) ≡ after_bits r (byte_bits b)
 by_table r b h =
     let x = bit_xor r b in
     let low : bit_and x 255 ≡ x % 256 = and_mask x 8 in
@@ -210,9 +210,9 @@ unfolding checksum_after
 checksum_after-append value xs ys =
     let start = bit_xor all_ones value in
     ap (bit_xor all_ones)
-    (ap (λ (r : ℕ). after_bits r (flat_map bits_of ys)) (xor_twice all_ones (after_bits start (flat_map bits_of xs)))
-    ∙ sym (after_bits-append start (flat_map bits_of xs) (flat_map bits_of ys))
-    ∙ ap (after_bits start) (sym (flat_map-append bits_of xs ys)))
+    (ap (λ (r : ℕ). after_bits r (flat_map byte_bits ys)) (xor_twice all_ones (after_bits start (flat_map byte_bits xs)))
+    ∙ sym (after_bits-append start (flat_map byte_bits xs) (flat_map byte_bits ys))
+    ∙ ap (after_bits start) (sym (flat_map-append byte_bits xs ys)))
 
 pub goes_on : (value : ℕ) (xs ys : List ℕ) → checksum_after (checksum_after value xs) ys ≡ checksum_after value (xs ++ ys)
 goes_on = checksum_after-append
@@ -250,13 +250,13 @@ one_below r b h small =
     ∙ ap (λ (x : ℕ). steps 8 (bit_xor r x)) (sym above)
 
 -- bytes go in as their number does, before as many bytes of 0
-bytes_in : (r : ℕ) (bs : List ℕ) → AllByRecursion (λ b. b < 256) bs → after_bits r (flat_map bits_of bs) ≡ on_by (length bs) (bit_xor r (lowest_first bs))
+bytes_in : (r : ℕ) (bs : List ℕ) → AllByRecursion (λ b. b < 256) bs → after_bits r (flat_map byte_bits bs) ≡ on_by (length bs) (bit_xor r (lowest_first bs))
 unfolding on_by after_bits
 bytes_in r [] small = sym (xor_zero_r r)
 bytes_in r (b ∷ bs) small =
-    ap (after_bits r) (flat_map-cons bits_of b bs)
-    ∙ after_bits-append r (bits_of b) (flat_map bits_of bs)
-    ∙ ap (λ (x : ℕ). after_bits x (flat_map bits_of bs)) (after_byte_is r b small.0)
+    ap (after_bits r) (flat_map-cons byte_bits b bs)
+    ∙ after_bits-append r (byte_bits b) (flat_map byte_bits bs)
+    ∙ ap (λ (x : ℕ). after_bits x (flat_map byte_bits bs)) (after_byte_is r b small.0)
     ∙ bytes_in (steps 8 (bit_xor r b)) bs small.1
     ∙ ap (on_by (length bs)) (one_below r b (lowest_first bs) small.0)
 
@@ -310,7 +310,7 @@ eight_of _ e small = absurd (omega arith)
 
 -- eight looks take eight bytes in
 pub eight_in : (r : ℕ) (bs : List ℕ) (x : ℕ) → r < 2 ^ 64 → length bs ≡ 8 → ((i : ℕ) → get_or bs i 0 < 256) → x ≡ bit_xor r (from_le_bytes w64 bs)
-    → bit_xor (bit_xor (bit_xor (bit_xor (bit_xor (bit_xor (bit_xor (get_or TABLE_1 (x / 256 ^ 7 % 256) 0) (get_or TABLE_2 (x / 256 ^ 6 % 256) 0)) (get_or TABLE_3 (x / 256 ^ 5 % 256) 0)) (get_or TABLE_4 (x / 256 ^ 4 % 256) 0)) (get_or TABLE_5 (x / 256 ^ 3 % 256) 0)) (get_or TABLE_6 (x / 256 ^ 2 % 256) 0)) (get_or TABLE_7 (x / 256 ^ 1 % 256) 0)) (get_or TABLE_8 (x % 256) 0) ≡ after_bits r (flat_map bits_of bs)
+    → bit_xor (bit_xor (bit_xor (bit_xor (bit_xor (bit_xor (bit_xor (get_or TABLE_1 (x / 256 ^ 7 % 256) 0) (get_or TABLE_2 (x / 256 ^ 6 % 256) 0)) (get_or TABLE_3 (x / 256 ^ 5 % 256) 0)) (get_or TABLE_4 (x / 256 ^ 4 % 256) 0)) (get_or TABLE_5 (x / 256 ^ 3 % 256) 0)) (get_or TABLE_6 (x / 256 ^ 2 % 256) 0)) (get_or TABLE_7 (x / 256 ^ 1 % 256) 0)) (get_or TABLE_8 (x % 256) 0) ≡ after_bits r (flat_map byte_bits bs)
 eight_in r bs x fits e small is =
     let eight = eight_of bs e small in
     let below : x < 2 ^ 64 = rw is (rw eight.number (xor_lt 64 r (lowest_first bs) fits eight.below)) in
@@ -326,28 +326,28 @@ eight_in r bs x fits e small is =
     (eight_looks x below ∙ ap (on_by 8) (is ∙ ap (bit_xor r) eight.number) ∙ ap (λ (n : ℕ). on_by n (bit_xor r (lowest_first bs))) (sym e) ∙ sym (bytes_in r bs eight.small))
 
 -- bytes that are taken in bring the rest on
-pub first_in : (r : ℕ) (bytes : List ℕ) (n : ℕ) (total : ℕ) → after_bits r (flat_map bits_of bytes) ≡ total
-    → after_bits (after_bits r (flat_map bits_of (take n bytes))) (flat_map bits_of (drop n bytes)) ≡ total
+pub first_in : (r : ℕ) (bytes : List ℕ) (n : ℕ) (total : ℕ) → after_bits r (flat_map byte_bits bytes) ≡ total
+    → after_bits (after_bits r (flat_map byte_bits (take n bytes))) (flat_map byte_bits (drop n bytes)) ≡ total
 first_in r bytes n total so_far =
-    sym (after_bits-append r (flat_map bits_of (take n bytes)) (flat_map bits_of (drop n bytes)))
-    ∙ ap (after_bits r) (sym (flat_map-append bits_of (take n bytes) (drop n bytes)) ∙ ap (flat_map bits_of) (take-append-drop n bytes))
+    sym (after_bits-append r (flat_map byte_bits (take n bytes)) (flat_map byte_bits (drop n bytes)))
+    ∙ ap (after_bits r) (sym (flat_map-append byte_bits (take n bytes) (drop n bytes)) ∙ ap (flat_map byte_bits) (take-append-drop n bytes))
     ∙ so_far
 
 -- ---- the loop over bytes
 
 pub one_more : (r : ℕ) (bytes : List ℕ) (i byte : ℕ) (total : ℕ) → i < length bytes → get_or bytes i 0 ≡ byte
-    → after_bits r (flat_map bits_of (drop i bytes)) ≡ total → after_bits (after_bits r (bits_of byte)) (flat_map bits_of (drop (i + 1) bytes)) ≡ total
+    → after_bits r (flat_map byte_bits (drop i bytes)) ≡ total → after_bits (after_bits r (byte_bits byte)) (flat_map byte_bits (drop (i + 1) bytes)) ≡ total
 one_more r bytes i byte total lt e so_far =
     let parts : drop i bytes ≡ byte ∷ drop (i + 1) bytes = rw add-one (drop-cons bytes i 0 lt ∙ ap (λ (x : ℕ). x ∷ drop (suc i) bytes) e) in
-    sym (after_bits-append r (bits_of byte) (flat_map bits_of (drop (i + 1) bytes)))
-    ∙ ap (after_bits r) (sym (ap (flat_map bits_of) parts ∙ flat_map-cons bits_of byte (drop (i + 1) bytes)))
+    sym (after_bits-append r (byte_bits byte) (flat_map byte_bits (drop (i + 1) bytes)))
+    ∙ ap (after_bits r) (sym (ap (flat_map byte_bits) parts ∙ flat_map-cons byte_bits byte (drop (i + 1) bytes)))
     ∙ so_far
 
-pub none_left : (r : ℕ) (bytes : List ℕ) (i : ℕ) (total : ℕ) → length bytes ≤ i → after_bits r (flat_map bits_of (drop i bytes)) ≡ total → r ≡ total
+pub none_left : (r : ℕ) (bytes : List ℕ) (i : ℕ) (total : ℕ) → length bytes ≤ i → after_bits r (flat_map byte_bits (drop i bytes)) ≡ total → r ≡ total
 unfolding after_bits
 none_left r bytes i total le so_far =
     let nothing : drop i bytes ≡ [] = drop_all i bytes le in
-    sym (ap (λ (bs : List ℕ). after_bits r (flat_map bits_of bs)) nothing) ∙ so_far
+    sym (ap (λ (bs : List ℕ). after_bits r (flat_map byte_bits bs)) nothing) ∙ so_far
 
 pub checksum-nil : checksum [] ≡ 0
 unfolding checksum after_bits

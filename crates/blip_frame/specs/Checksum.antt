@@ -21,13 +21,13 @@ after_bits register [] = register
 after_bits register (bit ∷ bits) = after_bits (after_bit register bit) bits
 
 -- the bits of a byte, the lowest first
-abbrev pub bits_of : ℕ → List ℕ
-bits_of byte = bit_at byte 0 ∷ bit_at byte 1 ∷ bit_at byte 2 ∷ bit_at byte 3 ∷ bit_at byte 4 ∷ bit_at byte 5 ∷ bit_at byte 6 ∷ bit_at byte 7 ∷ []
+abbrev pub byte_bits : ℕ → List ℕ
+byte_bits byte = bit_at byte 0 ∷ bit_at byte 1 ∷ bit_at byte 2 ∷ bit_at byte 3 ∷ bit_at byte 4 ∷ bit_at byte 5 ∷ bit_at byte 6 ∷ bit_at byte 7 ∷ []
 
 -- the checksum once these bytes have followed those that the value is the checksum of
 unfoldable pub checksum_after : ℕ → List ℕ → ℕ
-checksum_after value bytes = bit_xor all_ones (after_bits (bit_xor all_ones value) (flat_map bits_of bytes))
+checksum_after value bytes = bit_xor all_ones (after_bits (bit_xor all_ones value) (flat_map byte_bits bytes))
 
 -- the checksum of bytes, which is 0 where there are none
 unfoldable pub checksum : List ℕ → ℕ
-checksum bytes = bit_xor all_ones (after_bits all_ones (flat_map bits_of bytes))
+checksum bytes = bit_xor all_ones (after_bits all_ones (flat_map byte_bits bytes))

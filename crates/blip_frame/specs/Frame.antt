@@ -84,8 +84,8 @@ pub record IsWritten (kept : ℕ) (bytes : List ℕ) (f : FrameParts) : Type 0 w
   pub spelled : bytes ≡ number ++ (flags ++ (f.payload ++ trailer f.kind kept))
 
 -- the payload bytes of a direction once the frame has gone, those of acknowledgements left out
-abbrev pub sent_after : List ℕ → FrameParts → List ℕ
-sent_after sent f = if has_checksum f.kind then sent ++ f.payload else sent
+abbrev pub payload_sent_after : List ℕ → FrameParts → List ℕ
+payload_sent_after sent f = if has_checksum f.kind then sent ++ f.payload else sent
 
 -- the checksum of a direction once the frame has gone
 abbrev pub value_after : ℕ → FrameParts → ℕ
@@ -93,10 +93,10 @@ value_after value f = if has_checksum f.kind then checksum_after value f.payload
 
 -- the bytes are this frame in a direction in which these payload bytes were sent so far
 abbrev pub IsFrameAfter : List ℕ → List ℕ → FrameParts → Type 0
-IsFrameAfter sent bytes f = IsFrame (checksum (sent_after sent f)) bytes f
+IsFrameAfter sent bytes f = IsFrame (checksum (payload_sent_after sent f)) bytes f
 
 abbrev pub IsWrittenAfter : List ℕ → List ℕ → FrameParts → Type 0
-IsWrittenAfter sent bytes f = IsWritten (checksum (sent_after sent f)) bytes f
+IsWrittenAfter sent bytes f = IsWritten (checksum (payload_sent_after sent f)) bytes f
 
 -- the bytes are this frame in a direction whose checksum so far is this
 abbrev pub IsFrameFrom : ℕ → List ℕ → FrameParts → Type 0
@@ -141,12 +141,12 @@ content_at kind rest =
     else Ok (rest, None)
 
 -- the checksum after a payload whose own one is kept, or that has none
-abbrev pub kept_at : ℕ → List ℕ → Option ℕ → Result ℕ FrameFault
-kept_at value payload None = Ok value
-kept_at value payload (Some kept) = if kept == checksum_after value payload then Ok kept else Err (faults.BadChecksum kept (checksum_after value payload))
+abbrev pub checksum_at : ℕ → List ℕ → Option ℕ → Result ℕ FrameFault
+checksum_at value payload None = Ok value
+checksum_at value payload (Some kept) = if kept == checksum_after value payload then Ok kept else Err (faults.BadChecksum kept (checksum_after value payload))
 
 unfoldable pub checked_at : ℕ → List ℕ → Option ℕ → Result ℕ FrameFault
-checked_at value payload kept = if nat_lt largest_read (length payload) then Err (faults.TooLong (length payload)) else kept_at value payload kept
+checked_at value payload kept = if nat_lt largest_read (length payload) then Err (faults.TooLong (length payload)) else checksum_at value payload kept
 
 -- the frame that the bytes are, and the checksum after it, or the first fault
 unfoldable pub frame_at : ℕ → List ℕ → Result (FrameParts × ℕ) FrameFault
@@ -173,14 +173,14 @@ WritesAfter sent old new f = (bytes : List ℕ) × IsWrittenAfter sent bytes f �
 -- these frames are written one after another, after these payload bytes
 abbrev pub AreWrittenAfter : List ℕ → List (List ℕ) → List FrameParts → Type 0
 AreWrittenAfter sent [] [] = Unit {0}
-AreWrittenAfter sent (bytes ∷ texts) (f ∷ frames) = IsWrittenAfter sent bytes f × AreWrittenAfter (sent_after sent f) texts frames
+AreWrittenAfter sent (bytes ∷ texts) (f ∷ frames) = IsWrittenAfter sent bytes f × AreWrittenAfter (payload_sent_after sent f) texts frames
 AreWrittenAfter sent [] (f ∷ frames) = ⊥
 AreWrittenAfter sent (bytes ∷ texts) [] = ⊥
 
 -- the payload bytes of a direction once all frames have gone
 abbrev pub all_sent : List ℕ → List FrameParts → List ℕ
 all_sent sent [] = sent
-all_sent sent (f ∷ frames) = all_sent (sent_after sent f) frames
+all_sent sent (f ∷ frames) = all_sent (payload_sent_after sent f) frames
 
 -- a frame before those that were read after it
 abbrev pub with_first : FrameParts → Result (List FrameParts) FrameFault → Result (List FrameParts) FrameFault

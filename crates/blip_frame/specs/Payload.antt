@@ -45,13 +45,13 @@ abbrev pub ◌>>=◌ : {A B : Type 0} → Result A PayloadFault → (A → Resul
 (Err e) >>= f = Err e
 
 -- a fault in the length, as a fault of the payload
-abbrev pub fault_of : VarintFault → PayloadFault
-fault_of varint_faults.Short = faults.Short
-fault_of varint_faults.BadVarint = faults.BadVarint
+abbrev pub payload_fault_of : VarintFault → PayloadFault
+payload_fault_of varint_faults.Short = faults.Short
+payload_fault_of varint_faults.BadVarint = faults.BadVarint
 
-abbrev pub header : Result (ℕ × List ℕ) VarintFault → Result (ℕ × List ℕ) PayloadFault
-header (Ok x) = Ok x
-header (Err fault) = Err (fault_of fault)
+abbrev pub payload_header : Result (ℕ × List ℕ) VarintFault → Result (ℕ × List ℕ) PayloadFault
+payload_header (Ok x) = Ok x
+payload_header (Err fault) = Err (payload_fault_of fault)
 
 -- whether a block ends in a NUL, as one with no bytes need not
 abbrev pub is_closed : List ℕ → Bool
@@ -65,9 +65,9 @@ begun b [] = []
 begun b (text ∷ texts) = (b ∷ text) ∷ texts
 
 -- the texts that a block closes
-abbrev pub texts_of : List ℕ → List (List ℕ)
-texts_of [] = []
-texts_of (b ∷ bs) = if b == 0 then [] ∷ texts_of bs else begun b (texts_of bs)
+abbrev pub closed_texts : List ℕ → List (List ℕ)
+closed_texts [] = []
+closed_texts (b ∷ bs) = if b == 0 then [] ∷ closed_texts bs else begun b (closed_texts bs)
 
 -- keys and values in turn
 abbrev pub paired : List (List ℕ) → List Pair
@@ -85,13 +85,13 @@ texts_at texts = if list_all is_utf8 texts then once_at (paired texts) else Err 
 unfoldable pub block_at : List ℕ → Result (List Pair) PayloadFault
 block_at block =
     if is_closed block
-    then (if length (texts_of block) % 2 == 0 then texts_at (texts_of block) else Err faults.Odd)
+    then (if length (closed_texts block) % 2 == 0 then texts_at (closed_texts block) else Err faults.Odd)
     else Err faults.NotClosed
 
 -- the properties and the body, or the first fault
 unfoldable pub payload_at : List ℕ → Result (List Pair × List ℕ) PayloadFault
 payload_at bytes = do
-  size ← header (number_at bytes)
+  size ← payload_header (number_at bytes)
   props ← (if nat_lt (length size.1) size.0 then Err faults.Short else block_at (take size.0 size.1))
   Ok (props, drop size.0 size.1)
 

@@ -2,7 +2,7 @@
 
 ghost use Rattle.std.specs.Prelude.{◌≡◌, slice_index};
 ghost use Rattle.std.specs.List.{flat_map};
-ghost use Rattle.blip_frame.specs.Checksum.{after_bits, bits_of, checksum_after};
+ghost use Rattle.blip_frame.specs.Checksum.{after_bits, byte_bits, checksum_after};
 
 use crate::tables::{TABLE_1, TABLE_2, TABLE_3, TABLE_4, TABLE_5, TABLE_6, TABLE_7, TABLE_8};
 
@@ -34,7 +34,7 @@ impl Crc {
 }
 
 fn register_after(start: u32, bytes: &[u8]) -> u32
-    ensures { result ≡ after_bits start (flat_map bits_of bytes.now) }
+    ensures { result ≡ after_bits start (flat_map byte_bits bytes.now) }
 {
     let (register, rest) = after_eights(start, bytes);
     after_each(register, rest)
@@ -42,8 +42,8 @@ fn register_after(start: u32, bytes: &[u8]) -> u32
 
 /// Takes bytes in, eight at a time, and gives the register and the bytes that are left.
 fn after_eights(start: u32, bytes: &[u8]) -> (u32, &[u8])
-    ensures { after_bits result.0 (flat_map bits_of result.1.now)
-        ≡ after_bits start (flat_map bits_of bytes.now) }
+    ensures { after_bits result.0 (flat_map byte_bits result.1.now)
+        ≡ after_bits start (flat_map byte_bits bytes.now) }
 {
     let mut register = start;
     let mut rest = bytes;
@@ -55,7 +55,7 @@ fn after_eights(start: u32, bytes: &[u8]) -> (u32, &[u8])
 }
 
 fn after_each(start: u32, bytes: &[u8]) -> u32
-    ensures { result ≡ after_bits start (flat_map bits_of bytes.now) }
+    ensures { result ≡ after_bits start (flat_map byte_bits bytes.now) }
 {
     let mut register = start;
     for byte in bytes {
@@ -66,7 +66,7 @@ fn after_each(start: u32, bytes: &[u8]) -> u32
 
 /// One look into each table: the byte that goes in first has the most bits behind it.
 fn after_eight(register: u32, bytes: &[u8; 8]) -> u32
-    ensures { result ≡ after_bits register (flat_map bits_of bytes.now) }
+    ensures { result ≡ after_bits register (flat_map byte_bits bytes.now) }
 {
     let mixed = u64::from(register) ^ u64::from_le_bytes(*bytes);
     let [b0, b1, b2, b3, b4, b5, b6, b7] = mixed.to_le_bytes();
@@ -81,7 +81,7 @@ fn after_eight(register: u32, bytes: &[u8; 8]) -> u32
 }
 
 fn after_byte(register: u32, byte: u8) -> u32
-    ensures { result ≡ after_bits register (bits_of byte) }
+    ensures { result ≡ after_bits register (byte_bits byte) }
 {
     let mixed = register ^ u32::from(byte);
     entry(&TABLE_1, (mixed & 0xff) as u8) ^ (mixed >> 8)

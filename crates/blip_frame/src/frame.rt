@@ -3,7 +3,7 @@
 ghost use Rattle.std.specs.Prelude.{◌≡◌, ◌≤◌, ◌<◌, ◌^◌, ◌+◌, ◌++◌, length, true, false, List, ℕ, Ok, Err, MatchResult, IfOk, OnOk, OnErr, IsOkAnd};
 ghost use Rattle.blip_frame.specs.Checksum.{checksum};
 ghost use Rattle.blip_frame.specs.Varint.{AddsSome};
-ghost use Rattle.blip_frame.specs.Frame.{FrameParts, parts_of, with_rest, has_checksum, flags_of, largest_written, IsMarkedAsKind, IsFrameAfter, IsFrameFrom, WritesAfter, kind_number, sent_after, value_after, kind_at, is_set, content_at, checked_at, frame_at, spelling};
+ghost use Rattle.blip_frame.specs.Frame.{FrameParts, parts_of, with_rest, has_checksum, flags_of, largest_written, IsMarkedAsKind, IsFrameAfter, IsFrameFrom, WritesAfter, kind_number, payload_sent_after, value_after, kind_at, is_set, content_at, checked_at, frame_at, spelling};
 
 use crate::crc::Crc;
 use crate::varint::{VarintFault, read_varint, write_varint};
@@ -91,7 +91,7 @@ pub fn read_frame<'a>(crc: &mut Crc, bytes: &'a [u8]) -> Result<Frame<'a>, Frame
     // The same in a direction in which these bytes were sent.
     ensures sent { (sent : List ℕ) → crc.old.value ≡ checksum sent → IfOk result
         (λ f. IsFrameAfter sent bytes.now (parts_of f)
-        × (crc.new.value ≡ checksum (sent_after sent (parts_of f)))) }
+        × (crc.new.value ≡ checksum (payload_sent_after sent (parts_of f)))) }
     ensures sent_only { (sent : List ℕ) (f : FrameParts) → crc.old.value ≡ checksum sent
         → IsFrameAfter sent bytes.now f
         → IsOkAnd result (λ g. parts_of g ≡ f) }
@@ -242,7 +242,7 @@ pub fn write_frame(crc: &mut Crc, frame: &Frame<'_>, out: &mut Bytes) -> Result<
     // In a direction in which these bytes were sent.
     ensures sent { (sent : List ℕ) → crc.old.value ≡ checksum sent
         → OnOk result (WritesAfter sent out.old out.new (parts_of frame.now)
-        × (crc.new.value ≡ checksum (sent_after sent (parts_of frame.now)))) }
+        × (crc.new.value ≡ checksum (payload_sent_after sent (parts_of frame.now)))) }
     ensures err { OnErr result ((out.new ≡ out.old) × (crc.new ≡ crc.old)) }
 {
     write_frame_with(crc, frame, &[], out)
@@ -268,7 +268,7 @@ pub fn write_frame_with(
     // In a direction in which these bytes were sent.
     ensures sent { (sent : List ℕ) → crc.old.value ≡ checksum sent
         → OnOk result (WritesAfter sent out.old out.new (with_rest (parts_of frame.now) rest.now)
-        × (crc.new.value ≡ checksum (sent_after sent (with_rest (parts_of frame.now) rest.now)))) }
+        × (crc.new.value ≡ checksum (payload_sent_after sent (with_rest (parts_of frame.now) rest.now)))) }
     ensures err { OnErr result ((out.new ≡ out.old) × (crc.new ≡ crc.old)) }
 {
     let after = crc_after(*crc, frame, rest);

@@ -3,7 +3,7 @@
 ghost use Rattle.std.specs.Prelude.{◌≡◌, ◌++◌, ◌<◌, ◌^◌, ◌≤◌, [], length, List, ℕ, Ok};
 ghost use Rattle.blip_frame.specs.Checksum.{checksum, checksum_after};
 ghost use Rattle.blip_frame.specs.Varint.{IsRead, IsShortest, number_at, varint};
-ghost use Rattle.blip_frame.specs.Frame.{FrameParts, flags_of, largest_written, IsMarkedAsKind, IsFrame, IsFrameAfter, IsWritten, IsWrittenAfter, AreWrittenAfter, all_sent, sent_after, value_after, frame_at, frames_at, with_front, spelling};
+ghost use Rattle.blip_frame.specs.Frame.{FrameParts, flags_of, largest_written, IsMarkedAsKind, IsFrame, IsFrameAfter, IsWritten, IsWrittenAfter, AreWrittenAfter, all_sent, payload_sent_after, value_after, frame_at, frames_at, with_front, spelling};
 ghost use Rattle.blip_frame.specs.Props.{Pair};
 ghost use Rattle.blip_frame.specs.Payload.{AreProps, IsPayload, block_of, payload_at, payload_text};
 
@@ -40,9 +40,9 @@ pub fn frames()
     ensures part { (kept : ℕ) (bytes : List ℕ) (f : FrameParts) → IsWritten kept bytes f
         → IsFrame kept bytes f }
     ensures again { (sent bytes : List ℕ) (f : FrameParts) → IsWrittenAfter sent bytes f
-        → frame_at (checksum sent) bytes ≡ Ok (f, checksum (sent_after sent f)) }
+        → frame_at (checksum sent) bytes ≡ Ok (f, checksum (payload_sent_after sent f)) }
     ensures value { (sent : List ℕ) (f : FrameParts)
-        → value_after (checksum sent) f ≡ checksum (sent_after sent f) }
+        → value_after (checksum sent) f ≡ checksum (payload_sent_after sent f) }
     ensures one_frame { (sent bytes : List ℕ) (f g : FrameParts) → IsFrameAfter sent bytes f
         → IsFrameAfter sent bytes g → f ≡ g }
     ensures prefix { (j k : ℕ) (a b more : List ℕ) (f g : FrameParts) → IsFrame j a f

@@ -6,7 +6,7 @@ ghost use Rattle.std.specs.Str.{is_utf8};
 ghost use Rattle.std.specs.String.{string_bytes};
 ghost use Rattle.blip_frame.specs.Varint.{AddsSome};
 ghost use Rattle.blip_frame.specs.Props.{Pair, pairs_of, pair_of, keys_of, stands_twice};
-ghost use Rattle.blip_frame.specs.Payload.{HasNoNul, IsPayload, payload_at, block_at, is_closed, texts_of, paired, text_len, block_of, closed, closed_pair, front_text, payload_text};
+ghost use Rattle.blip_frame.specs.Payload.{HasNoNul, IsPayload, payload_at, block_at, is_closed, closed_texts, paired, text_len, block_of, closed, closed_pair, front_text, payload_text};
 
 use crate::props::{Prop, Props};
 use crate::varint::{VarintFault, read_varint, write_varint};
@@ -44,9 +44,9 @@ pub enum PayloadFault {
 
 impl From<VarintFault> for PayloadFault {
     ghost use Rattle.std.specs.Prelude.{◌≡◌};
-    ghost use Rattle.blip_frame.specs.Payload.{fault_of};
+    ghost use Rattle.blip_frame.specs.Payload.{payload_fault_of};
 
-    ghost from_gives = { λ fault r. r ≡ fault_of fault };
+    ghost from_gives = { λ fault r. r ≡ payload_fault_of fault };
 
     fn from(fault: VarintFault) -> PayloadFault {
         match fault {
@@ -168,7 +168,7 @@ fn is_closed(block: &[u8]) -> bool
 }
 
 fn count_texts(block: &[u8]) -> usize
-    ensures { result ≡ length (texts_of block.now) }
+    ensures { result ≡ length (closed_texts block.now) }
 {
     count_nuls(block)
 }
@@ -182,7 +182,7 @@ fn count_nuls(block: &[u8]) -> usize
 /// Whether the texts of a block are UTF-8: its NULs are, so that all of it is where they are.
 fn are_texts(block: &[u8]) -> bool
     requires { is_closed block.now ≡ true }
-    ensures { result ≡ list_all is_utf8 (texts_of block.now) }
+    ensures { result ≡ list_all is_utf8 (closed_texts block.now) }
 {
     match str::from_utf8(block) {
         Ok(_) => true,
@@ -193,8 +193,8 @@ fn are_texts(block: &[u8]) -> bool
 /// Whether a key stands twice.
 fn has_twice(alloc: Global, block: &[u8]) -> Result<bool, AllocError>
     requires closed { is_closed block.now ≡ true }
-    requires even { length (texts_of block.now) % 2 ≡ 0 }
-    ensures { IfOk result (λ twice. twice ≡ stands_twice (keys_of (paired (texts_of block.now)))) }
+    requires even { length (closed_texts block.now) % 2 ≡ 0 }
+    ensures { IfOk result (λ twice. twice ≡ stands_twice (keys_of (paired (closed_texts block.now)))) }
 {
     let mut seen: BTreeSet<&[u8]> = BTreeSet::new(alloc);
     let mut rest = block;
@@ -212,9 +212,9 @@ fn has_twice(alloc: Global, block: &[u8]) -> Result<bool, AllocError>
 /// The keys and values of a block in turn, of which there are about so many.
 fn pairs(alloc: Global, block: &[u8], count: usize) -> Result<Vec<Prop>, AllocError>
     requires closed { is_closed block.now ≡ true }
-    requires even { length (texts_of block.now) % 2 ≡ 0 }
-    requires texts { list_all is_utf8 (texts_of block.now) ≡ true }
-    ensures { IfOk result (λ v. pairs_of v.items ≡ paired (texts_of block.now)) }
+    requires even { length (closed_texts block.now) % 2 ≡ 0 }
+    requires texts { list_all is_utf8 (closed_texts block.now) ≡ true }
+    ensures { IfOk result (λ v. pairs_of v.items ≡ paired (closed_texts block.now)) }
 {
     let mut props = Vec::with_capacity(alloc, count)?;
     let mut rest = block;
@@ -234,7 +234,7 @@ fn pairs(alloc: Global, block: &[u8], count: usize) -> Result<Vec<Prop>, AllocEr
 fn first_text(block: &[u8]) -> (&[u8], &[u8])
     requires closed { is_closed block.now ≡ true }
     requires some { 0 < length block.now }
-    ensures texts { texts_of block.now ≡ result.0.now ∷ texts_of result.1.now }
+    ensures texts { closed_texts block.now ≡ result.0.now ∷ closed_texts result.1.now }
     ensures rest { is_closed result.1.now ≡ true }
     ensures shorter { length result.1.now < length block.now }
 {

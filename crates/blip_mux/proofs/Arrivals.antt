@@ -2,14 +2,14 @@
 use Rattle.std.proofs.Common.{◌≡◌, ℕ, List, [], ◌∷◌, Result, Ok, refl, sym, ap, subst, ◌∙◌}
 use Rattle.std.specs.Prelude.{IsOkAnd}
 use Rattle.blip_frame.specs.Checksum.{checksum}
-use Rattle.blip_frame.specs.Frame.{FrameParts, IsWrittenAfter, sent_after, frame_at}
+use Rattle.blip_frame.specs.Frame.{FrameParts, IsWrittenAfter, payload_sent_after, frame_at}
 use Rattle.blip_frame.specs.declared.frame.FrameFault.{FrameFault}
 use Rattle.blip_mux.specs.Joining.{Event, came, expected}
 use Rattle.blip_mux.specs.Arriving.{Arrival, bytes, awaits, AreSentAfter, with_event, read_before, events_at}
 
 -- what is written of a frame is read again
 abbrev pub ReadsFrames : Type 0
-ReadsFrames = (sent text : List ℕ) (f : FrameParts) → IsWrittenAfter sent text f → frame_at (checksum sent) text ≡ Ok (f, checksum (sent_after sent f))
+ReadsFrames = (sent text : List ℕ) (f : FrameParts) → IsWrittenAfter sent text f → frame_at (checksum sent) text ≡ Ok (f, checksum (payload_sent_after sent f))
 
 read_again : ReadsFrames → (sent : List ℕ) (arrivals : List Arrival) (events : List Event) → AreSentAfter sent arrivals events → events_at (checksum sent) arrivals ≡ Ok events
 read_again again sent [] [] are = refl
@@ -18,7 +18,7 @@ read_again again sent (bytes text ∷ arrivals) [] are = absurd are
 read_again again sent (awaits number ∷ arrivals) [] are = absurd are
 read_again again sent (bytes text ∷ arrivals) (came f ∷ events) are =
     ap (λ (r : Result (FrameParts × ℕ) FrameFault). read_before r (λ after. events_at after arrivals)) (again sent text f are.0)
-    ∙ ap (with_event (came f)) (read_again again (sent_after sent f) arrivals events are.1)
+    ∙ ap (with_event (came f)) (read_again again (payload_sent_after sent f) arrivals events are.1)
 read_again again sent (bytes text ∷ arrivals) (expected number ∷ events) are = absurd are
 read_again again sent (awaits number ∷ arrivals) (came f ∷ events) are = absurd are
 read_again again sent (awaits number ∷ arrivals) (expected other ∷ events) are =

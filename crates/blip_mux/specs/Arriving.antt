@@ -1,6 +1,6 @@
 -- The bytes of frames, as they arrive.
 use Rattle.std.specs.Prelude.{◌≡◌, ℕ, List, [], ◌∷◌, Result, Ok, Err}
-use Rattle.blip_frame.specs.Frame.{FrameParts, IsWrittenAfter, sent_after, frame_at}
+use Rattle.blip_frame.specs.Frame.{FrameParts, IsWrittenAfter, payload_sent_after, frame_at}
 use Rattle.blip_frame.specs.declared.frame.FrameFault.{FrameFault}
 use Rattle.blip_mux.specs.Joining.{Event, came, expected}
 
@@ -14,7 +14,7 @@ abbrev pub AreSentAfter : List ℕ → List Arrival → List Event → Type 0
 AreSentAfter sent [] [] = Unit {0}
 AreSentAfter sent [] (event ∷ events) = ⊥
 AreSentAfter sent (arrival ∷ arrivals) [] = ⊥
-AreSentAfter sent (bytes text ∷ arrivals) (came f ∷ events) = IsWrittenAfter sent text f × AreSentAfter (sent_after sent f) arrivals events
+AreSentAfter sent (bytes text ∷ arrivals) (came f ∷ events) = IsWrittenAfter sent text f × AreSentAfter (payload_sent_after sent f) arrivals events
 AreSentAfter sent (bytes text ∷ arrivals) (expected number ∷ events) = ⊥
 AreSentAfter sent (awaits number ∷ arrivals) (came f ∷ events) = ⊥
 AreSentAfter sent (awaits number ∷ arrivals) (expected other ∷ events) = (number ≡ other) × AreSentAfter sent arrivals events

@@ -2,7 +2,7 @@
 use Rattle.std.specs.Prelude.{◌≡◌, ℕ, ◌+◌, ◌-◌, ◌≤◌, Bool, ◌&&◌, ◌||◌, false, List, [], ◌∷◌, ◌++◌, length, take, drop, max, find, Option, Some, None, option_map, nat_lt, nat_le, ◌==◌, if◌then◌else◌}
 use Rattle.std.specs.Option.{option_or, option_map_or}
 use Rattle.blip_frame.specs.Checksum.{checksum}
-use Rattle.blip_frame.specs.Frame.{FrameParts, largest_written, sent_after, spelling, value_after, WritesAfter}
+use Rattle.blip_frame.specs.Frame.{FrameParts, largest_written, payload_sent_after, spelling, value_after, WritesAfter}
 use Rattle.blip_frame.specs.declared.frame.Kind.{Kind}
 use Rattle.blip_frame.specs.declared.frame.Kind.TheVariants as kinds
 use Rattle.blip_mux.specs.Joining.{is_request, is_reply}
@@ -164,4 +164,4 @@ abbrev pub SendsAfter : List ℕ → Option FrameParts → Next → ℕ → List
 SendsAfter sent None nexts.Idle after old new = (after ≡ checksum sent) × (new ≡ old)
 SendsAfter sent None nexts.Frame after old new = ⊥
 SendsAfter sent (Some f) nexts.Idle after old new = ⊥
-SendsAfter sent (Some f) nexts.Frame after old new = (after ≡ checksum (sent_after sent f)) × WritesAfter sent old new f
+SendsAfter sent (Some f) nexts.Frame after old new = (after ≡ checksum (payload_sent_after sent f)) × WritesAfter sent old new f

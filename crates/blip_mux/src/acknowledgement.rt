@@ -2,7 +2,7 @@
 
 ghost use Rattle.std.specs.Prelude.{◌≡◌, ◌++◌, ◌≤◌, false, length, List, ℕ, OnOk, OnErr};
 ghost use Rattle.blip_frame.specs.Checksum.{checksum};
-ghost use Rattle.blip_frame.specs.Frame.{has_checksum, value_after, spelling, sent_after, WritesAfter};
+ghost use Rattle.blip_frame.specs.Frame.{has_checksum, value_after, spelling, payload_sent_after, WritesAfter};
 ghost use Rattle.blip_mux.specs.Acknowledgements.{ack_frame};
 
 use blip_frame::{Crc, Frame, Kind, Varint, write_frame};
@@ -49,7 +49,7 @@ impl Acknowledgement {
             (crc.new.value ≡ value_after crc.old.value (ack_frame self.now)) }
         ensures sent { (sent : List ℕ) → crc.old.value ≡ checksum sent
             → OnOk result (WritesAfter sent out.old out.new (ack_frame self.now)
-            × (crc.new.value ≡ checksum (sent_after sent (ack_frame self.now)))) }
+            × (crc.new.value ≡ checksum (payload_sent_after sent (ack_frame self.now)))) }
         ensures err { OnErr result ((out.new ≡ out.old) × (crc.new ≡ crc.old)) }
     {
         let payload = Varint::new(self.bytes);

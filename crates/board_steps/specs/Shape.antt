@@ -12,13 +12,13 @@ use Rattle.sync_meaning.specs.declared.effects.Effects.{Effects}
 use Rattle.sync_syntax.specs.declared.tree.Program.{Program}
 use Rattle.doc_board.specs.Boards.{board_of}
 use Rattle.doc_board.specs.Judging.{body_or_empty}
-use Rattle.doc_board.specs.Outcomes.{IsBadField, IsByLimits, IsOutcome, IsTooLarge, bytes_of, effects_in}
+use Rattle.doc_board.specs.Outcomes.{IsBadPart, IsByLimits, IsOutcome, IsTooLarge, bytes_of, effects_in}
 use Rattle.doc_board.specs.State.{State}
 use Rattle.board_steps.specs.After.{IsBoardAfter}
 
 -- the refusal of a revision itself, whatever the board; or memory was short
 abbrev pub IsRefusal : Revision → Outcome → Type 0
-IsRefusal r (outcome.Bad400 field) = IsBadField r field
+IsRefusal r (outcome.Bad400 field) = IsBadPart r field
 IsRefusal r (outcome.TooLarge413 bytes) = IsTooLarge r bytes
 IsRefusal r outcome.Memory507 = Unit {0}
 IsRefusal r other = ⊥

@@ -2,7 +2,7 @@
 
 ghost use Rattle.std.specs.Prelude.{◌≡◌, ◌++◌, ◌∷◌, [], IfOk, OnOk};
 ghost use Rattle.doc_board.specs.Boards.{board_of, board_tree};
-ghost use Rattle.doc_board.specs.Offers.{answer_to};
+ghost use Rattle.doc_board.specs.Offers.{offer_answer};
 ghost use Rattle.board_steps.specs.Asks.{AskedAt};
 
 use doc_board::laws::boards;
@@ -13,7 +13,7 @@ use std::alloc::Global;
 
 fn answer_at(alloc: Global, board: &Board, offer: &Offer) -> Result<OfferAnswer, Memory>
     ensures { IfOk result (λ answer. answer
-        ≡ answer_to (board_tree (board_of board.now) offer.now.doc) offer.now) }
+        ≡ offer_answer (board_tree (board_of board.now) offer.now.doc) offer.now) }
 {
     boards();
     answer_offer(alloc, board.tree(&offer.doc), offer)
@@ -27,7 +27,7 @@ fn put_answer(
     answers: &mut OfferAnswers,
 ) -> Result<(), Memory>
     ensures { OnOk result (answers.new ≡ answers.old
-        ++ answer_to (board_tree (board_of board.now) offer.now.doc) offer.now ∷ []) }
+        ++ offer_answer (board_tree (board_of board.now) offer.now.doc) offer.now ∷ []) }
 {
     let answer = answer_at(alloc, board, offer)?;
     answers.push(answer)?;

@@ -14,7 +14,7 @@ use Rattle.sg_history.specs.History.{SyncEntry, as_sync, as_write, of_document, 
 use Rattle.sg_history.specs.Current.{Current, Sequenced, current, current_after, mark_in, mark_of, marks_rev}
 use Rattle.log_index.specs.declared.documents.Document.{Document}
 use Rattle.log_index.specs.declared.marks.Marked.{Marked}
-use Rattle.log_index.specs.Marks.{is_mark, mark_place, marked_after, marked_by, marked_or, marked_up_to, place_by, place_in, write_of}
+use Rattle.log_index.specs.Marks.{is_mark, mark_place, marked_after, mark_of_write, marked_or, marked_up_to, place_by, place_in, write_of}
 use Rattle.log_index.specs.Places.{document_at}
 use Rattle.log_index.proofs.GoingBack.{all_up_to}
 use Rattle.log_index.proofs.Nexts.{stays_at}
@@ -121,8 +121,8 @@ module _ (e : Entry) (older : List Entry) (sync : SyncEntry) (replaces : as_sync
 
       after : marked_up_to es d.winning (length es) ≡ marked_or (mark_place sync.marks doc w.write.rev) (length older + 1) (marked_after older this)
       after =
-          ap (λ (xs : List Entry). marked_by xs d.winning (write_of es d.winning)) (all_up_to es (length es) (omega arith))
-          ∙ ap (λ (o : Option Write). marked_by es d.winning o) written
+          ap (λ (xs : List Entry). mark_of_write xs d.winning (write_of es d.winning)) (all_up_to es (length es) (omega arith))
+          ∙ ap (λ (o : Option Write). mark_of_write es d.winning o) written
           ∙ ap (λ (b : Bool). if b then None else marked_or (place_by e w.write.doc w.write.rev) (length older + 1) (marked_after older this)) (below (nat_le (length older + 1) d.winning) refl)
           ∙ ap (λ (o : Option SyncEntry). marked_or (place_in o w.write.doc w.write.rev) (length older + 1) (marked_after older this)) replaces
           ∙ ap (λ (n : List ℕ). marked_or (mark_place sync.marks n w.write.rev) (length older + 1) (marked_after older this)) old.won.doc_is

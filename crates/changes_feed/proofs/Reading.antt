@@ -8,7 +8,7 @@ use Rattle.sg_history.specs.History.{as_sync, past}
 use Rattle.sg_history.specs.Current.{Sequenced, effects_of, effects_or, recorded_effects}
 use Rattle.log_index.specs.declared.documents.Document.{Document}
 use Rattle.log_index.specs.declared.marks.Marked.{Marked}
-use Rattle.log_index.specs.Marks.{effects_by, mark_in_place, marked_after, marked_by, marked_up_to, write_of}
+use Rattle.log_index.specs.Marks.{effects_by, mark_in_place, marked_after, mark_of_write, marked_up_to, write_of}
 use Rattle.log_index.specs.Places.{document_at}
 use Rattle.log_views.specs.At.{write_at, written}
 use Rattle.log_views.specs.States.{effects_in, since_by}
@@ -31,7 +31,7 @@ module _ (index entries : List Entry) (to : ℕ) (indexed : IndexesTo index entr
       write_read entries to seq one.0 one.1 pos low high ∙ ap written (sym one.1) ∙ is
 
   pub after_is : marked_up_to index seq to ≡ marked_after (past entries to) this
-  after_is = index_marked index entries to indexed seq low ∙ ap (λ (o : Option Write). marked_by (past entries to) seq o) there
+  after_is = index_marked index entries to indexed seq low ∙ ap (λ (o : Option Write). mark_of_write (past entries to) seq o) there
 
   module _ (effects : (es : List Entry) (w : Sequenced) → effects_of es w ≡ effects_by es (marked_after es w) w.write) (has : EffectsOf) where
     pub unmarked : marked_up_to index seq to ≡ None → effects_in has ≡ recorded_effects w → has.since ≡ seq → IsWinning (past entries to) seq w has

@@ -140,8 +140,8 @@ module _ (laws : Laws) (e : Entry) (older : List Entry) (sync : SyncEntry) (repl
       let old : IsDocument older mark.doc d = is_document older mark.doc d (sym (stays mark.doc) ∙ here) in
       let new : IsDocument es mark.doc d = is_document es mark.doc d here in
       let m : Marked = record { sync = length older + 1; mark = n } in
-      let marked : marks.marked_by es d.winning (write_of es d.winning) ≡ Some m =
-      ap (λ (xs : List Entry). marks.marked_by xs d.winning (write_of es d.winning)) (sym (all_up_to es (length older + 1) (omega arith)))
+      let marked : marks.mark_of_write es d.winning (write_of es d.winning) ≡ Some m =
+      ap (λ (xs : List Entry). marks.mark_of_write xs d.winning (write_of es d.winning)) (sym (all_up_to es (length older + 1) (omega arith)))
       ∙ is_this (marked_up_to es d.winning (length older + 1)) n is in
       record {
         doc = mark.doc;
@@ -248,8 +248,8 @@ module _ (laws : Laws) (e : Entry) (older : List Entry) (sync : SyncEntry) (repl
       ∙ place.1) in
       let from_first : place.0 ≡ 0 + place.0 = omega arith in
       let marked : marked_up_to es d.winning (length older + 1) ≡ Some (record { sync = length older + 1; mark = 0 + place.0 }) =
-      ap (λ (xs : List Entry). marks.marked_by xs d.winning (write_of es d.winning)) (all_up_to es (length older + 1) (omega arith))
-      ∙ ap (λ (o : Option Write). marks.marked_by es d.winning o) written
+      ap (λ (xs : List Entry). marks.mark_of_write xs d.winning (write_of es d.winning)) (all_up_to es (length older + 1) (omega arith))
+      ∙ ap (λ (o : Option Write). marks.mark_of_write es d.winning o) written
       ∙ after
       ∙ ap (λ (p : ℕ). Some (record { sync = length older + 1; mark = p })) from_first in
       ap (is_moved (moves_of older es sync.marks 0)) (ap (λ (x : Current). x.seq) (sym same) ∙ old.now_seq)

@@ -10,7 +10,7 @@ use Rattle.sg_history.specs.declared.entries.Write.{Write}
 use Rattle.sg_history.specs.History.{as_sync, as_write, past}
 use Rattle.sg_history.specs.Current.{Effects, Sequenced, effects_of, effects_or, recorded_effects}
 use Rattle.log_index.specs.declared.marks.Marked.{Marked}
-use Rattle.log_index.specs.Marks.{effects_by, entries_up_to, mark_at, mark_in_place, marked_after, marked_by, marked_up_to, write_of}
+use Rattle.log_index.specs.Marks.{effects_by, entries_up_to, mark_at, mark_in_place, marked_after, mark_of_write, marked_up_to, write_of}
 use Rattle.log_index.specs.Places.{after_at, next_at, next_or, written_again}
 use Rattle.log_index.proofs.FirstRevisions.{at_older}
 use Rattle.log_index.proofs.GoingBack.{all_up_to, up_to_older}
@@ -149,20 +149,20 @@ module _ (index entries : List Entry) (k : ℕ) (indexed : IndexesTo index entri
   pub index_counts : (seq : ℕ) → counts_at index k seq ≡ is_last (next_at (past entries k) seq)
   index_counts seq = sym (counts_up_to index seq k) ∙ ap (λ (es : List Entry). is_last (next_at es seq)) index_up_to
 
-  pub index_marked : (seq : ℕ) → seq ≤ k → marked_up_to index seq k ≡ marked_by (past entries k) seq (write_of (past entries k) seq)
-  index_marked seq low = ap (λ (es : List Entry). marked_by es seq (write_of index seq)) index_up_to ∙ ap (λ (o : Option Write). marked_by (past entries k) seq o) (index_write seq low)
+  pub index_marked : (seq : ℕ) → seq ≤ k → marked_up_to index seq k ≡ mark_of_write (past entries k) seq (write_of (past entries k) seq)
+  index_marked seq low = ap (λ (es : List Entry). mark_of_write es seq (write_of index seq)) index_up_to ∙ ap (λ (o : Option Write). mark_of_write (past entries k) seq o) (index_write seq low)
 
   pub index_lower : (m : ℕ) → m ≤ k → IndexesTo index entries m
   index_lower m low = (indexed.0, omega (arith, low, indexed.1), indexed.2, indexed.3)
 
 -- the channels of a written revision
 module _ (effects : (es : List Entry) (w : Sequenced) → effects_of es w ≡ effects_by es (marked_after es w) w.write) where
-  of_written : (es : List Entry) (seq : ℕ) (o : Option Write) → marked_by es seq o ≡ None → written_channels o ≡ channels_by es seq o
+  of_written : (es : List Entry) (seq : ℕ) (o : Option Write) → mark_of_write es seq o ≡ None → written_channels o ≡ channels_by es seq o
   of_written es seq None is = refl
   of_written es seq (Some w) is =
       sym (ap (λ (f : Effects). f.channels) (effects es (record { seq = seq; write = w }) ∙ ap (λ (m : Option Marked). effects_by es m w) is))
 
-  pub of_marked : (es : List Entry) (seq : ℕ) (m : Marked) (o : Option Write) → ((w : Sequenced) → marked_after es w ≡ Some m → IsSome (mark_at es m)) → marked_by es seq o ≡ Some m
+  pub of_marked : (es : List Entry) (seq : ℕ) (m : Marked) (o : Option Write) → ((w : Sequenced) → marked_after es w ≡ Some m → IsSome (mark_at es m)) → mark_of_write es seq o ≡ Some m
       → marked_channels (mark_at es m) ≡ channels_by es seq o
   of_marked es seq m None there is = absurd (none-some m is)
   of_marked es seq m (Some w) there is = by (mark_at es m) refl (there (record { seq = seq; write = w }) is)
@@ -199,7 +199,7 @@ pub mark_within : (index entries : List Entry) (k : ℕ) → IndexesTo index ent
     → (m : Marked) → marked_up_to index seq k ≡ Some m → (seq < m.sync) × (m.sync ≤ k)
 mark_within index entries k indexed seq low after within m is = by (write_of (past entries k) seq) (sym (index_marked index entries k indexed seq low) ∙ is)
   where
-    by : (o : Option Write) → marked_by (past entries k) seq o ≡ Some m → (seq < m.sync) × (m.sync ≤ k)
+    by : (o : Option Write) → mark_of_write (past entries k) seq o ≡ Some m → (seq < m.sync) × (m.sync ≤ k)
     by None is = absurd (none-some m is)
     by (Some w) is = (
       after (record { seq = seq; write = w }) m is,
@@ -210,4 +210,4 @@ mark_within index entries k indexed seq low after within m is = by (write_of (pa
 pub index_same_mark : (index entries : List Entry) (k : ℕ) → IndexesTo index entries k → (seq : ℕ) → seq ≤ k → marked_up_to index seq k ≡ marked_up_to (past entries k) seq (length (past entries k))
 index_same_mark index entries k indexed seq low =
     index_marked index entries k indexed seq low
-    ∙ ap (λ (es : List Entry). marked_by es seq (write_of (past entries k) seq)) (sym (all_up_to (past entries k) (length (past entries k)) (omega arith)))
+    ∙ ap (λ (es : List Entry). mark_of_write es seq (write_of (past entries k) seq)) (sym (all_up_to (past entries k) (length (past entries k)) (omega arith)))

@@ -7,7 +7,7 @@ use Rattle.std.proofs.lemmas.Bool.{true≢false, and_parts, false_from_ne_true}
 use Rattle.sg_names.specs.Grammar.{is_plain, is_plain_text, is_dash, is_channel_name, is_name, lacks}
 use Rattle.sg_history.specs.Board.{SideEntry, SideValue, side_at}
 use Rattle.checkpoint_store.specs.SideMaps.{IsPut}
-use Rattle.checkpoint_store.specs.Checkpoints.{pair_text, checkpoint_at}
+use Rattle.checkpoint_store.specs.Checkpoints.{checkpoint_text, checkpoint_at}
 
 -- a name has no control character
 name_plain : (name : List ℕ) → is_name name ≡ true → is_plain name ≡ true
@@ -31,24 +31,24 @@ cut_same (x ∷ a) (y ∷ b) c d first second is =
 
 module _ (lacks_zero : (text : List ℕ) → IsTrue (is_plain text) → IsTrue (lacks 0 text)) where
   pub pair_same : (user other client another : List ℕ) → IsTrue (is_name user) → IsTrue (is_name other)
-      → pair_text user client ≡ pair_text other another → (user ≡ other) × (client ≡ another)
+      → checkpoint_text user client ≡ checkpoint_text other another → (user ≡ other) × (client ≡ another)
   pair_same user other client another named known is =
       cut_same user other client another (lacks_zero user (name_plain user named)) (lacks_zero other (name_plain other known)) is
 
   pub put_other : (before after : List SideEntry) (user client : List ℕ) (value : SideValue) (other another : List ℕ)
-      → IsPut before (pair_text user client) value after → IsTrue (is_name user) → IsTrue (is_name other)
+      → IsPut before (checkpoint_text user client) value after → IsTrue (is_name user) → IsTrue (is_name other)
       → (user ≢ other) ⊎ (client ≢ another) → checkpoint_at after other another ≡ checkpoint_at before other another
   put_other before after user client value other another put named known apart =
-      put (pair_text other another)
-      ∙ ap (λ (b : Bool). if b then Some value else side_at before (pair_text other another))
-      (false_from_ne_true (bytes_eq (pair_text user client) (pair_text other another)) (λ same. differ apart (pair_same user other client another named known ((bytes_decides (pair_text user client) (pair_text other another)).0 same))))
+      put (checkpoint_text other another)
+      ∙ ap (λ (b : Bool). if b then Some value else side_at before (checkpoint_text other another))
+      (false_from_ne_true (bytes_eq (checkpoint_text user client) (checkpoint_text other another)) (λ same. differ apart (pair_same user other client another named known ((bytes_decides (checkpoint_text user client) (checkpoint_text other another)).0 same))))
     where
       differ : (user ≢ other) ⊎ (client ≢ another) → (user ≡ other) × (client ≡ another) → ⊥
       differ (inl ne) both = ne both.0
       differ (inr ne) both = ne both.1
 
 pub put_here : (before after : List SideEntry) (user client : List ℕ) (value : SideValue)
-    → IsPut before (pair_text user client) value after → checkpoint_at after user client ≡ Some value
+    → IsPut before (checkpoint_text user client) value after → checkpoint_at after user client ≡ Some value
 put_here before after user client value put =
-    put (pair_text user client)
-    ∙ ap (λ (b : Bool). if b then Some value else side_at before (pair_text user client)) ((bytes_decides (pair_text user client) (pair_text user client)).1 refl)
+    put (checkpoint_text user client)
+    ∙ ap (λ (b : Bool). if b then Some value else side_at before (checkpoint_text user client)) ((bytes_decides (checkpoint_text user client) (checkpoint_text user client)).1 refl)

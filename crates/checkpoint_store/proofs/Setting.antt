@@ -9,7 +9,7 @@ use Rattle.std.proofs.lemmas.Option.{same_Some}
 use Rattle.sg_history.specs.Board.{SideEntry, SideValue, side_at, Follows, SideFollows}
 use Rattle.checkpoint_store.specs.declared.answers.SetAnswer.{SetAnswer}
 use Rattle.checkpoint_store.specs.declared.answers.SetAnswer.TheVariants.{Set, Conflict409, TooLarge413, Full503, Memory}
-use Rattle.checkpoint_store.specs.SideMaps.{number_at, IsPut, IsRising}
+use Rattle.checkpoint_store.specs.SideMaps.{side_number, IsPut, IsRising}
 use Rattle.checkpoint_store.specs.Checkpoints.{IsPairText, IsCheckpoint, AreCheckpoints}
 use Rattle.checkpoint_store.specs.Answers.{is_full, answer_of, set_answer, Sets}
 
@@ -43,9 +43,9 @@ set_next number count rev next is = go (nat_eq rev (unwrap_or number 0)) (is_ful
 
 -- a body that is not too large is answered by the number that is kept
 pub answer_small : (side : List SideEntry) (text : List ℕ) (rev : ℕ) (body : List ℕ) → length body ≤ 4096
-    → set_answer side text rev body ≡ answer_of (number_at side text) (length side) rev
+    → set_answer side text rev body ≡ answer_of (side_number side text) (length side) rev
 answer_small side text rev body small =
-    ap (λ (b : Bool). if b then TooLarge413 (length body) else answer_of (number_at side text) (length side) rev) (le-ltb 4096 (length body) small)
+    ap (λ (b : Bool). if b then TooLarge413 (length body) else answer_of (side_number side text) (length side) rev) (le-ltb 4096 (length body) small)
 
 -- ---- what a set leaves
 pub refuses : (side : List SideEntry) (text : List ℕ) (rev : ℕ) (body : List ℕ) (r : SetAnswer)
@@ -58,9 +58,9 @@ refuses side text rev body Memory unset is = record { answer = λ there. is; put
 
 -- what is answered by a key is what is answered by its text
 pub by_text : (side : List SideEntry) (key text : List ℕ) (rev : ℕ) (body : List ℕ) (r : SetAnswer) → key ≡ text → length body ≤ 4096
-    → r ≡ answer_of (number_at side key) (length side) rev → r ≡ set_answer side text rev body
+    → r ≡ answer_of (side_number side key) (length side) rev → r ≡ set_answer side text rev body
 by_text side key text rev body r same small is =
-    is ∙ ap (λ (t : List ℕ). answer_of (number_at side t) (length side) rev) same ∙ sym (answer_small side text rev body small)
+    is ∙ ap (λ (t : List ℕ). answer_of (side_number side t) (length side) rev) same ∙ sym (answer_small side text rev body small)
 
 pub runs_out : (before after : List SideEntry) (text : List ℕ) (rev : ℕ) (body : List ℕ) → after ≡ before → Sets before text rev body Memory after
 runs_out before after text rev body is = record { answer = λ there. absurd (there refl); put = tt; same = is }
@@ -91,14 +91,14 @@ next_fits (Some old) count next last most full is =
     (omega (arith, more), omega (arith, more, apart, high), room)
 
 module _ (before after : List SideEntry) (text body : List ℕ) (rev next : ℕ) (are : AreCheckpoints before) (pair : IsPairText text)
-    (small : length body ≤ 4096) (is : answer_of (number_at before text) (length before) rev ≡ Set next)
+    (small : length body ≤ 4096) (is : answer_of (side_number before text) (length before) rev ≡ Set next)
     (put : IsPut before text (record { number = next; bytes = body }) after) where
   abbrev value : SideValue
   value = record { number = next; bytes = body }
 
   fits : (1 ≤ next) × (next ≤ 18446744073709551615) × (length before + (if is_some (side_at before text) then 0 else 1) ≤ 100000)
   fits =
-      let it = set_next (number_at before text) (length before) rev next is in
+      let it = set_next (side_number before text) (length before) rev next is in
       next_fits (side_at before text) (length before) next (λ old there. let c = are.each text old there in c.last) are.count it.0 it.1
 
   here : IsCheckpoint text value
@@ -120,14 +120,14 @@ module _ (before after : List SideEntry) (text body : List ℕ) (rev next : ℕ)
 side_itself : (side : List SideEntry) → SideFollows side side
 side_itself side text old there = (old, there, record { number = omega arith; bytes = λ same. refl })
 
-put_follows : (before after : List SideEntry) (text : List ℕ) (value : SideValue) → unwrap_or (number_at before text) 0 < value.number
+put_follows : (before after : List SideEntry) (text : List ℕ) (value : SideValue) → unwrap_or (side_number before text) 0 < value.number
     → IsPut before text value after → SideFollows before after
 put_follows before after text value more put other old there = go (bytes_eq text other) refl
   where
     go : (b : Bool) → bytes_eq text other ≡ b → (new : SideValue) × (side_at after other ≡ Some new) × Follows old new
     go true same =
         let stands : side_at before text ≡ Some old = ap (side_at before) ((bytes_decides text other).0 same) ∙ there in
-        let was : unwrap_or (number_at before text) 0 ≡ old.number = ap (λ (o : Option SideValue). unwrap_or (option_map (λ (v : SideValue). v.number) o) 0) stands in (
+        let was : unwrap_or (side_number before text) 0 ≡ old.number = ap (λ (o : Option SideValue). unwrap_or (option_map (λ (v : SideValue). v.number) o) 0) stands in (
           value,
           put other ∙ ap (λ (b : Bool). if b then Some value else side_at before other) same,
           record {
@@ -140,14 +140,14 @@ put_follows before after text value more put other old there = go (bytes_eq text
 pub set_follows : (before after : List SideEntry) (text : List ℕ) (rev : ℕ) (body : List ℕ) (r : SetAnswer) → Sets before text rev body r after → SideFollows before after
 set_follows before after text rev body (Set next) sets = put_follows before after text (record { number = next; bytes = body }) low sets.put
   where
-    number_is : (large : Bool) → Set next ≡ (if large then TooLarge413 (length body) else answer_of (number_at before text) (length before) rev)
-        → next ≡ unwrap_or (number_at before text) 0 + 1
+    number_is : (large : Bool) → Set next ≡ (if large then TooLarge413 (length body) else answer_of (side_number before text) (length before) rev)
+        → next ≡ unwrap_or (side_number before text) 0 + 1
     number_is true is = not_set (TooLarge413 (length body)) next refl (sym is)
-    number_is false is = (set_next (number_at before text) (length before) rev next (sym is)).1
+    number_is false is = (set_next (side_number before text) (length before) rev next (sym is)).1
 
-    low : unwrap_or (number_at before text) 0 < next
+    low : unwrap_or (side_number before text) 0 < next
     low =
-        let it : next ≡ unwrap_or (number_at before text) 0 + 1 = number_is (nat_lt 4096 (length body)) (sets.answer (λ e. true≢false (ap is_set e))) in
+        let it : next ≡ unwrap_or (side_number before text) 0 + 1 = number_is (nat_lt 4096 (length body)) (sets.answer (λ e. true≢false (ap is_set e))) in
         omega (arith, it)
 set_follows before after text rev body (Conflict409 current) sets = subst (SideFollows before) (sym sets.same) (side_itself before)
 set_follows before after text rev body (TooLarge413 bytes) sets = subst (SideFollows before) (sym sets.same) (side_itself before)

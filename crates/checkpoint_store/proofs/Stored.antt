@@ -17,7 +17,7 @@ use Rattle.std.proofs.lemmas.Map.Text.{is_eq-slice_cmp}
 use Rattle.std.proofs.lemmas.Option.{none-some}
 use Rattle.sg_history.specs.Board.{SideValue, side_at}
 use Rattle.checkpoint_store.specs.declared.kept.Checkpoint.{Checkpoint}
-use Rattle.checkpoint_store.specs.SideMaps.{texts, IsRising, IsPut, number_at}
+use Rattle.checkpoint_store.specs.SideMaps.{texts, IsRising, IsPut, side_number}
 use Rattle.checkpoint_store.specs.Checkpoints.{AreCheckpoints}
 use Rattle.checkpoint_store.specs.Stored.{entry_of, side_of, value_of}
 
@@ -44,7 +44,7 @@ at_kept (e ∷ es) text =
     go false more = more
 
 -- the number of what is found
-pub number_kept : (es : Entries) (text : List ℕ) → number_at (side_of es) text ≡ option_map (λ (c : Checkpoint). c.rev) (found_in es text)
+pub number_kept : (es : Entries) (text : List ℕ) → side_number (side_of es) text ≡ option_map (λ (c : Checkpoint). c.rev) (found_in es text)
 number_kept es text = ap (option_map (λ (v : SideValue). v.number)) (at_kept es text) ∙ go (found_in es text)
   where
     go : (found : Option Checkpoint) → option_map (λ (v : SideValue). v.number) (option_map value_of found) ≡ option_map (λ (c : Checkpoint). c.rev) found

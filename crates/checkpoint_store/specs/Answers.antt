@@ -6,7 +6,7 @@ use Rattle.checkpoint_store.specs.declared.answers.Kept0.{Kept0}
 use Rattle.checkpoint_store.specs.declared.answers.Kept0.TheVariants.{Found, Absent404}
 use Rattle.checkpoint_store.specs.declared.answers.SetAnswer.{SetAnswer}
 use Rattle.checkpoint_store.specs.declared.answers.SetAnswer.TheVariants.{Set, Conflict409, TooLarge413, Full503, Memory}
-use Rattle.checkpoint_store.specs.SideMaps.{number_at, IsPut}
+use Rattle.checkpoint_store.specs.SideMaps.{side_number, IsPut}
 
 -- what a get answers of what is kept
 abbrev pub kept_of : Option SideValue → Kept0
@@ -30,7 +30,7 @@ answer_of number count rev =
 -- what a set under a text answers
 abbrev pub set_answer : List SideEntry → List ℕ → ℕ → List ℕ → SetAnswer
 set_answer side text rev body =
-    if nat_lt 4096 (length body) then TooLarge413 (length body) else answer_of (number_at side text) (length side) rev
+    if nat_lt 4096 (length body) then TooLarge413 (length body) else answer_of (side_number side text) (length side) rev
 
 -- where it is set, this holds of the number
 abbrev pub IfSet : SetAnswer → (ℕ → Type 0) → Type 0

@@ -5,12 +5,12 @@ use Rattle.sg_history.specs.Board.{SideEntry, SideValue, side_at}
 use Rattle.checkpoint_store.specs.SideMaps.{IsRising}
 
 -- the text of a user and a client: the user, a zero byte and the client
-abbrev pub pair_text : List ℕ → List ℕ → List ℕ
-pair_text user client = user ++ 0 ∷ client
+abbrev pub checkpoint_text : List ℕ → List ℕ → List ℕ
+checkpoint_text user client = user ++ 0 ∷ client
 
 -- the checkpoint of a user's client, if there is one
 abbrev pub checkpoint_at : List SideEntry → List ℕ → List ℕ → Option SideValue
-checkpoint_at side user client = side_at side (pair_text user client)
+checkpoint_at side user client = side_at side (checkpoint_text user client)
 
 -- a text is that of a user and a client
 pub record IsPairText (text : List ℕ) : Type 0 where
@@ -18,7 +18,7 @@ pub record IsPairText (text : List ℕ) : Type 0 where
   pub client : List ℕ
   pub named : IsTrue (is_name user)
   pub known : IsTrue (is_client client)
-  pub joined : text ≡ pair_text user client
+  pub joined : text ≡ checkpoint_text user client
 
 -- a user's client has a number from 1 to 2^64 - 1, and a body of at most 4,096 bytes
 pub record IsCheckpoint (text : List ℕ) (value : SideValue) : Type 0 where

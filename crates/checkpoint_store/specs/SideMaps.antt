@@ -16,8 +16,8 @@ abbrev pub IsRising : List SideEntry → Type 0
 IsRising side = IsStrictlySortedBy (slice_cmp nat_cmp) (texts side)
 
 -- the number under a text, if the side map has the text
-abbrev pub number_at : List SideEntry → List ℕ → Option ℕ
-number_at side text = option_map (λ (value : SideValue). value.number) (side_at side text)
+abbrev pub side_number : List SideEntry → List ℕ → Option ℕ
+side_number side text = option_map (λ (value : SideValue). value.number) (side_at side text)
 
 -- what a text has once a value is put under another: that value where they are the same, and else what it had
 abbrev pub side_put : List SideEntry → List ℕ → SideValue → List ℕ → Option SideValue

@@ -1,7 +1,7 @@
 //! The checkpoints of all users and clients.
 
 ghost use Rattle.std.specs.Prelude.{◌≡◌, ◌++◌, [], string_bytes, IfOk, OnOk};
-ghost use Rattle.checkpoint_store.specs.Checkpoints.{pair_text, IsPairText, AreCheckpoints};
+ghost use Rattle.checkpoint_store.specs.Checkpoints.{checkpoint_text, IsPairText, AreCheckpoints};
 ghost use Rattle.checkpoint_store.specs.Answers.{kept_at, Sets};
 
 use crate::answers::{Kept0, SetAnswer};
@@ -39,7 +39,7 @@ impl Model for Checkpoints {
 /// Puts the text of a user and a client behind what stands there.
 fn push_pair(text: &mut String, user: &str, client: &str) -> Result<(), Memory>
     ensures { OnOk result (string_bytes text.new
-        ≡ string_bytes text.old ++ pair_text user.now client.now) }
+        ≡ string_bytes text.old ++ checkpoint_text user.now client.now) }
 {
     text.push_str(user)?;
     text.push_str("\0")?;
@@ -49,7 +49,7 @@ fn push_pair(text: &mut String, user: &str, client: &str) -> Result<(), Memory>
 
 /// The text of a user and a client, in no more room than it needs.
 fn key_of(alloc: Global, user: &Name, client: &Client) -> Result<String, Memory>
-    ensures text { IfOk result (λ key. string_bytes key ≡ pair_text user.now client.now) }
+    ensures text { IfOk result (λ key. string_bytes key ≡ checkpoint_text user.now client.now) }
     ensures pair { IfOk result (λ key. IsPairText (string_bytes key)) }
 {
     let user = user.as_str();
@@ -73,7 +73,7 @@ impl Checkpoints {
     /// The checkpoint of a user's client, with its whole body.
     pub fn get(&self, user: &Name, client: &Client) -> Result<Kept0, Memory>
         ensures kept { IfOk result (λ kept. kept
-            ≡ kept_at self.now (pair_text user.now client.now)) }
+            ≡ kept_at self.now (checkpoint_text user.now client.now)) }
         ensures checkpoints { AreCheckpoints self.now }
     {
         let key = key_of(self.alloc, user, client)?;
@@ -84,7 +84,7 @@ impl Checkpoints {
     /// has none. The body is refused first where it has more than 4,096 bytes, then where another number is kept, then where
     /// 100,000 checkpoints leave no room for a new one or the number is the last. A checkpoint that is there is never dropped.
     pub fn set(&mut self, user: &Name, client: &Client, rev: u64, body: Bytes) -> SetAnswer
-        ensures sets { Sets self.old (pair_text user.now client.now) rev body result self.new }
+        ensures sets { Sets self.old (checkpoint_text user.now client.now) rev body result self.new }
         ensures checkpoints { AreCheckpoints self.new }
     {
         let alloc = self.alloc;

@@ -2,7 +2,7 @@
 
 ghost use Rattle.std.specs.Prelude.{◌≡◌, ◌≤◌, ◌+◌, length, string_bytes, is_some, Some, None, ℕ, IfOk, OnOk, OnErr, if◌then◌else◌};
 ghost use Rattle.sg_history.specs.Board.{side_at};
-ghost use Rattle.checkpoint_store.specs.SideMaps.{number_at, IsPut, IsRising};
+ghost use Rattle.checkpoint_store.specs.SideMaps.{side_number, IsPut, IsRising};
 ghost use Rattle.checkpoint_store.specs.Checkpoints.{IsPairText, AreCheckpoints};
 ghost use Rattle.checkpoint_store.specs.Answers.{kept_at, answer_of, Sets};
 ghost use Rattle.checkpoint_store.specs.Stored.{side_of, value_of};
@@ -79,7 +79,7 @@ fn answer_new(pairs: usize, rev: u64) -> SetAnswer
 
 /// What a set answers that names `rev`, by what is kept by a key.
 fn answer(kept: &Kept, key: &str, rev: u64) -> SetAnswer
-    ensures { result ≡ answer_of (number_at (side_of kept.now.entries) key.now)
+    ensures { result ≡ answer_of (side_number (side_of kept.now.entries) key.now)
         (length (side_of kept.now.entries)) rev }
 {
     match kept.get(key) {

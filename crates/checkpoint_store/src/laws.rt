@@ -5,7 +5,7 @@ ghost use Rattle.sg_names.specs.Grammar.{is_name};
 ghost use Rattle.sg_history.specs.Board.{SideEntry, SideValue, side_at, SideFollows};
 ghost use Rattle.checkpoint_store.specs.declared.answers.SetAnswer.{SetAnswer};
 ghost use Rattle.checkpoint_store.specs.SideMaps.{IsPut, IsRising};
-ghost use Rattle.checkpoint_store.specs.Checkpoints.{pair_text, checkpoint_at};
+ghost use Rattle.checkpoint_store.specs.Checkpoints.{checkpoint_text, checkpoint_at};
 ghost use Rattle.checkpoint_store.specs.Answers.{Sets};
 
 use sg_names::laws::plain_texts;
@@ -14,13 +14,13 @@ use sg_names::laws::plain_texts;
 /// client have what they had.
 pub fn pairs()
     ensures one { (user other client another : List ℕ) → IsTrue (is_name user)
-        → IsTrue (is_name other) → pair_text user client ≡ pair_text other another
+        → IsTrue (is_name other) → checkpoint_text user client ≡ checkpoint_text other another
         → (user ≡ other) × (client ≡ another) }
     ensures put { (before after : List SideEntry) (user client : List ℕ) (value : SideValue)
-        → IsPut before (pair_text user client) value after
+        → IsPut before (checkpoint_text user client) value after
         → checkpoint_at after user client ≡ Some value }
     ensures others { (before after : List SideEntry) (user client : List ℕ) (value : SideValue)
-        (other another : List ℕ) → IsPut before (pair_text user client) value after
+        (other another : List ℕ) → IsPut before (checkpoint_text user client) value after
         → IsTrue (is_name user) → IsTrue (is_name other)
         → (user ≢ other) ⊎ (client ≢ another)
         → checkpoint_at after other another ≡ checkpoint_at before other another }

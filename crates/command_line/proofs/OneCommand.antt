@@ -4,7 +4,7 @@ use Rattle.std.specs.Str.{bytes_eq}
 use Rattle.std.proofs.lemmas.Slice.Eq.{bytes_eq-Decides}
 use Rattle.clap.specs.Words.{App}
 use Rattle.command_line.specs.CommandLines.{feed_app, replay_app, serve_app}
-use Rattle.command_line.specs.Matches.{Takes, begins_with}
+use Rattle.command_line.specs.Matches.{TakesWords, begins_with}
 use Rattle.command_line.proofs.CommandLines.{feed_is_named, replay_is_named, serve_is_named}
 
 -- two names that differ
@@ -18,15 +18,15 @@ module _ (one other : List ℕ) (differ : bytes_eq one other ≡ false) where
   both_begin [] is also = true≢false (sym is)
   both_begin (word ∷ words) is also = two_names word is also
 
-  taken_once : (first second : App) (words : List (List ℕ)) → first.top.name ≡ one → second.top.name ≡ other → Takes first words → Takes second words → ⊥
+  taken_once : (first second : App) (words : List (List ℕ)) → first.top.name ≡ one → second.top.name ≡ other → TakesWords first words → TakesWords second words → ⊥
   taken_once first second words named named_too is also =
       both_begin words (subst (λ n. IsTrue (begins_with n words)) named is.0) (subst (λ n. IsTrue (begins_with n words)) named_too also.0)
 
-pub feed_or_replay : (words : List (List ℕ)) → Takes feed_app words → Takes replay_app words → ⊥
+pub feed_or_replay : (words : List (List ℕ)) → TakesWords feed_app words → TakesWords replay_app words → ⊥
 feed_or_replay words = taken_once (codes "feed") (codes "replay") refl feed_app replay_app words feed_is_named replay_is_named
 
-pub feed_or_serve : (words : List (List ℕ)) → Takes feed_app words → Takes serve_app words → ⊥
+pub feed_or_serve : (words : List (List ℕ)) → TakesWords feed_app words → TakesWords serve_app words → ⊥
 feed_or_serve words = taken_once (codes "feed") (codes "serve") refl feed_app serve_app words feed_is_named serve_is_named
 
-pub replay_or_serve : (words : List (List ℕ)) → Takes replay_app words → Takes serve_app words → ⊥
+pub replay_or_serve : (words : List (List ℕ)) → TakesWords replay_app words → TakesWords serve_app words → ⊥
 replay_or_serve words = taken_once (codes "replay") (codes "serve") refl replay_app serve_app words replay_is_named serve_is_named

@@ -9,7 +9,7 @@ use Rattle.sg_names.specs.Key.{ReadsKey}
 use Rattle.sg_names.specs.Grammar.{is_channel_name, is_name}
 use Rattle.sg_history.specs.declared.row.Options.{Options}
 use Rattle.command_line.specs.CommandLines.{feed_app}
-use Rattle.command_line.specs.Matches.{Takes}
+use Rattle.command_line.specs.Matches.{TakesWords}
 
 -- a journal's path, a user's name, a since key, and which rows are asked for
 pub record FeedWords : Type 0 where
@@ -19,23 +19,23 @@ pub record FeedWords : Type 0 where
   pub options : Options
 
 -- what stands between the commas of a text
-abbrev pub names_in : List ℕ → List (List ℕ)
-names_in text = slice_split (λ b. b == 44) text
+abbrev pub names_between_commas : List ℕ → List (List ℕ)
+names_between_commas text = slice_split (λ b. b == 44) text
 
 -- channels' names with a comma between each two, in any order, of which one may stand twice
 abbrev pub is_channel_list : List ℕ → Bool
-is_channel_list text = list_all (λ n. is_channel_name n) (names_in text)
+is_channel_list text = list_all (λ n. is_channel_name n) (names_between_commas text)
 
 -- the flag's value is `true`
-abbrev pub is_set : List ℕ → List Row → Bool
-is_set flag rows = option_map_or (λ text. bytes_eq text (codes "true")) (first_of flag rows) false
+abbrev pub is_flag_set : List ℕ → List Row → Bool
+is_flag_set flag rows = option_map_or (λ text. bytes_eq text (codes "true")) (first_of flag rows) false
 
 -- the channels of the list are the filter, without a list there is none
-abbrev pub options_of : List Row → Options
-options_of rows = record {
-  filter = option_map names_in (first_of (codes "channels") rows);
-  active_only = is_set (codes "active-only") rows;
-  revocations = not (is_set (codes "no-revocations") rows);
+abbrev pub feed_options : List Row → Options
+feed_options rows = record {
+  filter = option_map names_between_commas (first_of (codes "channels") rows);
+  active_only = is_flag_set (codes "active-only") rows;
+  revocations = not (is_flag_set (codes "no-revocations") rows);
 }
 
 -- what the matches give, each value in its grammar
@@ -47,8 +47,8 @@ pub record HasFeedValues (rows : List Row) (f : FeedWords) : Type 0 where
   pub since : first_of (codes "since") rows ≡ Some text
   pub key : ReadsKey text f.since
   pub list : IsTrue (option_map_or is_channel_list (first_of (codes "channels") rows) true)
-  pub options : f.options ≡ options_of rows
+  pub options : f.options ≡ feed_options rows
 
 -- the words of `feed` are taken, and ask for this
 abbrev pub IsFeedWords : List (List ℕ) → FeedWords → Type 0
-IsFeedWords words f = Takes feed_app words × HasFeedValues (matches_of feed_app words) f
+IsFeedWords words f = TakesWords feed_app words × HasFeedValues (matches_of feed_app words) f

@@ -29,17 +29,17 @@ NeedsFile recorded name Memory = Unit {0}
 
 module _ (recorded : Option (List ℕ → Option (List ℕ))) (IsGood : ℕ → List ℕ → Type 0) (IsBad : ℕ → List ℕ → ℕ → Why → Type 0) where
   -- the file was loaded whole, so there is one, and where its bytes are recorded they are good
-  pub record IsAccepted (number : ℕ) (name : List ℕ) (load : Load) : Type 0 where
+  pub record IsAcceptedLoad (number : ℕ) (name : List ℕ) (load : Load) : Type 0 where
     pub load_is : load ≡ record { name = name; answer = Whole }
     pub there : ¬ HasNoFile recorded name
     pub good : (bytes : List ℕ) → HasFile recorded name bytes → IsGood number bytes
 
   -- all files were loaded, in order, of which the first has this number among the words
-  abbrev pub AreAccepted : ℕ → List (List ℕ) → List Load → Type 0
-  AreAccepted number [] [] = Unit {0}
-  AreAccepted number (name ∷ names) (load ∷ loads) = IsAccepted number name load × AreAccepted (number + 1) names loads
-  AreAccepted number [] (load ∷ loads) = ⊥
-  AreAccepted number (name ∷ names) [] = ⊥
+  abbrev pub AreAcceptedLoads : ℕ → List (List ℕ) → List Load → Type 0
+  AreAcceptedLoads number [] [] = Unit {0}
+  AreAcceptedLoads number (name ∷ names) (load ∷ loads) = IsAcceptedLoad number name load × AreAcceptedLoads (number + 1) names loads
+  AreAcceptedLoads number [] (load ∷ loads) = ⊥
+  AreAcceptedLoads number (name ∷ names) [] = ⊥
 
   -- what the status says of the last file that was loaded: that it was not read, is too long, is bad at this place, or that memory ran out
   abbrev pub TellsOf : ℕ → List ℕ → Loaded → Status → Type 0
@@ -55,14 +55,14 @@ module _ (recorded : Option (List ℕ → Option (List ℕ))) (IsGood : ℕ → 
   IsStopped number [] loads s = ⊥
   IsStopped number (name ∷ names) [] s = s ≡ status.Memory
   IsStopped number (name ∷ names) (load ∷ []) s = (load.name ≡ name) × TellsOf number name load.answer s
-  IsStopped number (name ∷ names) (load ∷ next ∷ loads) s = IsAccepted number name load × IsStopped (number + 1) names (next ∷ loads) s
+  IsStopped number (name ∷ names) (load ∷ next ∷ loads) s = IsAcceptedLoad number name load × IsStopped (number + 1) names (next ∷ loads) s
 
   -- the loads that led to this: all files were accepted, or the run stopped at one
   abbrev pub LoadsOf : {X : Type 0} → ℕ → List (List ℕ) → List Load → Result X Status → Type 0
-  LoadsOf number names loads (Ok x) = AreAccepted number names loads
+  LoadsOf number names loads (Ok x) = AreAcceptedLoads number names loads
   LoadsOf number names loads (Err s) = IsStopped number names loads s
 
   -- how a run may end that loads these files
   abbrev pub EndsLoads : ℕ → List (List ℕ) → List Load → Status → Type 0
   EndsLoads number names loads s =
-      (AreAccepted number names loads × ((s ≡ status.Ok) ⊎ (s ≡ status.WriteFault) ⊎ (s ≡ status.Memory))) ⊎ IsStopped number names loads s
+      (AreAcceptedLoads number names loads × ((s ≡ status.Ok) ⊎ (s ≡ status.WriteFault) ⊎ (s ≡ status.Memory))) ⊎ IsStopped number names loads s

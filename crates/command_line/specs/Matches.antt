@@ -9,5 +9,5 @@ begins_with name [] = false
 begins_with name (word ∷ words) = bytes_eq word name
 
 -- the first word is the command's name, and the words have no fault
-abbrev pub Takes : App → List (List ℕ) → Type 0
-Takes app words = IsTrue (begins_with app.top.name words) × (fault_of app words ≡ [])
+abbrev pub TakesWords : App → List (List ℕ) → Type 0
+TakesWords app words = IsTrue (begins_with app.top.name words) × (fault_of app words ≡ [])

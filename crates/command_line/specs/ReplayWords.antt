@@ -2,7 +2,7 @@
 use Rattle.std.specs.Prelude.{◌≡◌, ◌≤◌, ℕ, List, Some, codes, length}
 use Rattle.clap.specs.Words.{Row, all_of, first_of, matches_of}
 use Rattle.command_line.specs.CommandLines.{replay_app}
-use Rattle.command_line.specs.Matches.{Takes}
+use Rattle.command_line.specs.Matches.{TakesWords}
 
 -- the paths of a configuration, a script and recorded sessions
 pub record ReplayWords : Type 0 where
@@ -19,4 +19,4 @@ pub record HasReplayValues (rows : List Row) (r : ReplayWords) : Type 0 where
 
 -- the words of `replay` are taken, and ask for this
 abbrev pub IsReplayWords : List (List ℕ) → ReplayWords → Type 0
-IsReplayWords words r = Takes replay_app words × HasReplayValues (matches_of replay_app words) r
+IsReplayWords words r = TakesWords replay_app words × HasReplayValues (matches_of replay_app words) r

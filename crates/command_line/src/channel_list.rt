@@ -3,7 +3,7 @@
 ghost use Rattle.std.specs.Prelude.{◌≡◌, ◌==◌, Err, IfOk, IsTrue, false, map};
 ghost use Rattle.std.specs.List.{list_all, slice_split};
 ghost use Rattle.sg_names.specs.Grammar.{is_channel_name};
-ghost use Rattle.command_line.specs.FeedWords.{is_channel_list, names_in};
+ghost use Rattle.command_line.specs.FeedWords.{is_channel_list, names_between_commas};
 
 use crate::words_fault::WordsFault;
 use sg_history::{ChannelName, Channels, TextFault};
@@ -44,7 +44,7 @@ fn read_names(alloc: Global, pieces: &[&str]) -> Result<Vec<ChannelName>, WordsF
 
 /// Reads a list of channels, of which the names may stand in any order and more than once.
 pub(crate) fn read_channels(alloc: Global, text: &str) -> Result<Channels, WordsFault>
-    ensures ok { IfOk result (λ l. (l ≡ names_in text.now) × IsTrue (is_channel_list text.now)) }
+    ensures ok { IfOk result (λ l. (l ≡ names_between_commas text.now) × IsTrue (is_channel_list text.now)) }
     ensures bad { result ≡ Err WordsFault.BadWords → is_channel_list text.now ≡ false }
 {
     let pieces = split_at_commas(alloc, text)?;

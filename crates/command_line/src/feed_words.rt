@@ -6,7 +6,7 @@ ghost use Rattle.clap.specs.Words.{first_of, found_of, rows_of};
 ghost use Rattle.sg_names.specs.Grammar.{is_name};
 ghost use Rattle.command_line.specs.FeedRequest.{feed_of};
 ghost use Rattle.command_line.specs.FeedWords as values;
-ghost use Rattle.command_line.specs.FeedWords.{FeedWords, HasFeedValues, IsFeedWords, is_channel_list, options_of};
+ghost use Rattle.command_line.specs.FeedWords.{FeedWords, HasFeedValues, IsFeedWords, is_channel_list, feed_options};
 
 use crate::channel_list::read_channels;
 use crate::command_lines::feed_line;
@@ -27,7 +27,7 @@ pub struct FeedRequest<'a> {
 
 /// Whether a flag stands among the words.
 fn is_set(matches: &ArgMatches<'_>, flag: &str) -> bool
-    ensures { result ≡ values.is_set flag.now (rows_of (found_of matches.now)) }
+    ensures { result ≡ values.is_flag_set flag.now (rows_of (found_of matches.now)) }
 {
     match value_of(matches, flag) {
         Some(text) => text == "true",
@@ -37,7 +37,7 @@ fn is_set(matches: &ArgMatches<'_>, flag: &str) -> bool
 
 /// Which rows the matches ask for.
 fn read_options(alloc: Global, matches: &ArgMatches<'_>) -> Result<Options, WordsFault>
-    ensures ok { IfOk result (λ o. o ≡ options_of (rows_of (found_of matches.now))) }
+    ensures ok { IfOk result (λ o. o ≡ feed_options (rows_of (found_of matches.now))) }
     ensures list { IfOk result (λ o. IsTrue (option_map_or is_channel_list
         (first_of (codes "channels") (rows_of (found_of matches.now))) true)) }
     ensures bad { result ≡ Err WordsFault.BadWords → option_map_or is_channel_list

@@ -12,7 +12,7 @@ use Rattle.sync_syntax.specs.declared.tree.Program.{Program}
 use Rattle.sync_syntax.specs.Statements.{parsed}
 use Rattle.sync_resolve.specs.Resolving.{faults}
 use Rattle.gateway_config.specs.Faults.{config_fault, is_sound, no_faults}
-use Rattle.gateway_config.specs.Members.{json_of}
+use Rattle.gateway_config.specs.Members.{config_json}
 use Rattle.config_check.specs.declared.function.FunctionFault.{FunctionFault}
 use Rattle.config_check.specs.inner.Finding.{IsFoundIn}
 use Rattle.config_check.specs.Verdict.{IsPlaced, IsRefusalOf, function_text}
@@ -40,7 +40,7 @@ refused_text bytes path w found is e h =
 
 -- ---- what bytes are read as
 
-unread_where : (bytes : List ℕ) (r : Bool) → is_utf8 bytes ≡ r → (IsUtf8 bytes → read bytes ≡ None) → json_of bytes ≡ None
+unread_where : (bytes : List ℕ) (r : Bool) → is_utf8 bytes ≡ r → (IsUtf8 bytes → read bytes ≡ None) → config_json bytes ≡ None
 unread_where bytes true e h = rw e (h (IsUtf8-from_is_utf8 bytes e))
 unread_where bytes false e h = rw e refl
 

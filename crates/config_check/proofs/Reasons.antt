@@ -13,9 +13,9 @@ use Rattle.sync_syntax.specs.declared.tree.Program.{Program}
 use Rattle.sync_syntax.specs.Statements.{parsed}
 use Rattle.gateway_config.specs.declared.config.ConfigRole.{ConfigRole}
 use Rattle.gateway_config.specs.declared.config.ConfigUser.{ConfigUser}
-use Rattle.gateway_config.specs.Faults.{Fault, accepts_fault, at_member, bind_fault, channels_fault, config_fault, config_members, conflicts_fault, database_fault, first_of, is_role_of, is_session_of, is_sound, is_user_of, item_path, list_fault, members_fault, name_fault, name_why, names_fault, needed_why, object_fault, optional_why, role_members, role_object_fault, roles_fault, session_fault, session_why, sync_fault, sync_why, text_why, tree_fault, twice_why, unknown, user_members, user_object_fault, users_fault, value_why}
+use Rattle.gateway_config.specs.Faults.{Fault, accepts_fault, at_member, bind_fault, channels_fault, config_fault, config_members, conflicts_fault, database_fault, first_fault, is_role_of, is_session_of, is_sound, is_user_of, item_path, list_fault, members_fault, name_fault, name_why, names_fault, needed_why, object_fault, optional_why, role_members, role_object_fault, roles_fault, session_fault, session_why, function_fault, sync_why, text_why, tree_fault, twice_why, unknown, user_members, user_object_fault, users_fault, value_why}
 use Rattle.gateway_config.specs.Grammar.{is_database, is_session}
-use Rattle.gateway_config.specs.Members.{count_in, json_of, read_or, text_in, texts_in}
+use Rattle.gateway_config.specs.Members.{count_of_value, config_json, read_or, member_text, member_texts}
 use Rattle.gateway_config.specs.Values.{default_sync, role_in, sync_of, user_in}
 use Rattle.config_check.specs.Verdict.{function_text}
 
@@ -101,17 +101,17 @@ unknown_other path known (member name d ms) =
 
 name_other : (path : List ℕ) (taken : List ℕ → Bool) (ms : Members) → fault_is_text (name_fault path taken ms) ≡ false
 name_other path taken ms =
-    at_other path (codes "name") _ (why_or _ _ (needed_other (text_in is_name) (get_member (codes "name") ms)) (twice_other _))
+    at_other path (codes "name") _ (why_or _ _ (needed_other (member_text is_name) (get_member (codes "name") ms)) (twice_other _))
 
 channels_other : (path : List ℕ) (ms : Members) → fault_is_text (channels_fault path ms) ≡ false
-channels_other path ms = at_other path (codes "channels") _ (optional_other (texts_in is_channel_name) (get_member (codes "channels") ms))
+channels_other path ms = at_other path (codes "channels") _ (optional_other (member_texts is_channel_name) (get_member (codes "channels") ms))
 
 names_other : (path : List ℕ) (ms : Members) → fault_is_text (names_fault path ms) ≡ false
-names_other path ms = at_other path (codes "roles") _ (optional_other (texts_in is_name) (get_member (codes "roles") ms))
+names_other path ms = at_other path (codes "roles") _ (optional_other (member_texts is_name) (get_member (codes "roles") ms))
 
 session_other : (path : List ℕ) (taken : List ℕ → Bool) (ms : Members) → fault_is_text (session_fault path taken ms) ≡ false
 session_other path taken ms =
-    at_other path (codes "session") _ (why_or _ _ (optional_other (text_in is_session) (get_member (codes "session") ms)) (twice_other _))
+    at_other path (codes "session") _ (why_or _ _ (optional_other (member_text is_session) (get_member (codes "session") ms)) (twice_other _))
 
 role_other : (path : List ℕ) (taken : List ℕ → Bool) (ms : Members) → fault_is_text (role_object_fault path taken ms) ≡ false
 role_other path taken ms =
@@ -164,13 +164,13 @@ rest_other ms =
     (fault_or (list_fault [] (codes "users") (users_fault []) (get_member (codes "users") ms)) _ (list_other [] (codes "users") (users_fault []) (get_member (codes "users") ms) (users_other []))
     (fault_or (unknown [] config_members ms) None (unknown_other [] config_members ms) refl))
 
-sync_is_text : (ms : Members) → fault_is_text (members_fault [] ms) ≡ true → fault_is_text (sync_fault [] ms) ≡ true
+sync_is_text : (ms : Members) → fault_is_text (members_fault [] ms) ≡ true → fault_is_text (function_fault [] ms) ≡ true
 sync_is_text ms is =
-    sooner (sync_fault [] ms) _ (rest_other ms)
+    sooner (function_fault [] ms) _ (rest_other ms)
     (later (conflicts_fault [] ms) _ (at_other [] (codes "conflicts") _ (optional_other as_bool (get_member (codes "conflicts") ms)))
-    (later (accepts_fault [] ms) _ (at_other [] (codes "accepts") _ (optional_other count_in (get_member (codes "accepts") ms)))
+    (later (accepts_fault [] ms) _ (at_other [] (codes "accepts") _ (optional_other count_of_value (get_member (codes "accepts") ms)))
     (later (bind_fault [] ms) _ (at_other [] (codes "bind") _ (optional_other as_str (get_member (codes "bind") ms)))
-    (later (database_fault [] ms) _ (at_other [] (codes "database") _ (needed_other (text_in is_database) (get_member (codes "database") ms))) is))))
+    (later (database_fault [] ms) _ (at_other [] (codes "database") _ (needed_other (member_text is_database) (get_member (codes "database") ms))) is))))
 
 sound_or : (b : Bool) → why_is_text (if b then None else Some why.Sync) ≡ true → b ≡ false
 sound_or true is = absurd (not_both is)
@@ -198,5 +198,5 @@ unsound_read (Some d) is = (d, refl, unsound_value d is)
 
 -- where the function's text is what is bad, the bytes are JSON, and the text is no program whose names all stand for something
 pub unsound : (bytes path : List ℕ) → config_fault bytes ≡ Some (record { path = path; why = why.Sync })
-    → (d : Data) × (json_of bytes ≡ Some d) × (is_sound (parsed (function_text d)) ≡ false)
-unsound bytes path e = unsound_read (json_of bytes) (ap (λ (f : Option Fault). fault_is_text f) e)
+    → (d : Data) × (config_json bytes ≡ Some d) × (is_sound (parsed (function_text d)) ≡ false)
+unsound bytes path e = unsound_read (config_json bytes) (ap (λ (f : Option Fault). fault_is_text f) e)

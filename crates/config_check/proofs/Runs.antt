@@ -8,12 +8,12 @@ use Rattle.command_line.specs.declared.status.Status.TheVariants as status
 use Rattle.command_line.specs.Run.{Counted, EndsAbsent, EndsLoaded, IsLoaded, Prints}
 use Rattle.config_check.specs.declared.verdict.Verdict.{Verdict}
 use Rattle.config_check.specs.declared.verdict.Verdict.TheVariants.{Good, Long, Bad}
-use Rattle.config_check.specs.Run.{Ends, IsFound, PrintsVerdict, status_of}
+use Rattle.config_check.specs.Run.{EndsVerdict, IsFoundVerdict, PrintsVerdict, verdict_status}
 use Rattle.config_check.specs.Line.{verdict_line}
 use Rattle.config_check.specs.Verdict.{IsVerdict}
 
 -- what was printed is what is said of the file
-pub printed : (s : Status) (v : Verdict) (bytes : List ℕ) (faults faults' : ℕ) (before after : Option (List ℕ)) → IsVerdict bytes v → PrintsVerdict s v faults faults' before after → Ends s bytes before after
+pub printed : (s : Status) (v : Verdict) (bytes : List ℕ) (faults faults' : ℕ) (before after : Option (List ℕ)) → IsVerdict bytes v → PrintsVerdict s v faults faults' before after → EndsVerdict s bytes before after
 printed status.Ok v bytes faults faults' before after is p = (v, is, p.0, p.1)
 printed (status.BadInput file place why) v bytes faults faults' before after is p = (v, is, p.0, p.1)
 printed status.WriteFault v bytes faults faults' before after is p = (v, is, p.1)
@@ -23,7 +23,7 @@ printed status.ReadFault v bytes faults faults' before after is p = absurd p
 printed status.DoorFault v bytes faults faults' before after is p = p
 
 -- nothing was found
-pub not_found : (s : Status) (bytes : List ℕ) (taken : Option (List ℕ)) → IsFound bytes (Err s) → Ends s bytes taken taken
+pub not_found : (s : Status) (bytes : List ℕ) (taken : Option (List ℕ)) → IsFoundVerdict bytes (Err s) → EndsVerdict s bytes taken taken
 not_found status.Ok bytes taken f = absurd f
 not_found (status.BadInput file place why) bytes taken f = absurd f
 not_found status.WriteFault bytes taken f = absurd f
@@ -63,7 +63,7 @@ broken_off status.ReadFault v faults faults' before after other p = p
 broken_off status.DoorFault v faults faults' before after other p = p
 
 -- the line was printed whole, and the status is that of the verdict
-pub told : (v : Verdict) (s : Status) (faults faults' : ℕ) (before after : Option (List ℕ)) → s ≡ status_of v → Prints status.Ok (verdict_line v) faults faults' before after → PrintsVerdict s v faults faults' before after
+pub told : (v : Verdict) (s : Status) (faults faults' : ℕ) (before after : Option (List ℕ)) → s ≡ verdict_status v → Prints status.Ok (verdict_line v) faults faults' before after → PrintsVerdict s v faults faults' before after
 told Good s faults faults' before after is p = subst (λ x. PrintsVerdict x Good faults faults' before after) (sym is) (refl, p)
 told Long s faults faults' before after is p = subst (λ x. PrintsVerdict x Long faults faults' before after) (sym is) (refl, p)
 told (Bad r) s faults faults' before after is p = subst (λ x. PrintsVerdict x (Bad r) faults faults' before after) (sym is) (refl, p)

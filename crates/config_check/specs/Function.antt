@@ -6,14 +6,14 @@ use Rattle.sync_syntax.specs.declared.fault.ParseFault.TheVariants.{Bad}
 use Rattle.sync_syntax.specs.declared.tree.Program.{Program}
 use Rattle.sync_resolve.specs.declared.fault.ResolveFault.{ResolveFault}
 use Rattle.sync_resolve.specs.declared.fault.ResolveFault.TheVariants as resolve
-use Rattle.sync_resolve.specs.Faults.{IsFirst}
+use Rattle.sync_resolve.specs.Faults.{IsFirstFault}
 use Rattle.sync_resolve.specs.Resolving.{faults}
 use Rattle.config_check.specs.declared.function.FunctionWhy.{FunctionWhy}
 use Rattle.config_check.specs.declared.function.FunctionWhy.TheVariants.{Syntax, UnknownName, WrongCount, Redeclared, ConstWritten}
 
 -- a text was read as a program, and of all faults of its names this is the first
 abbrev pub HasNameFault : Result Program ParseFault → ResolveFault → Type 0
-HasNameFault read e = (p : Program) × (read ≡ Ok p) × IsFirst e (faults p)
+HasNameFault read e = (p : Program) × (read ≡ Ok p) × IsFirstFault e (faults p)
 
 -- a text that was read so is refused at this place, for this reason
 abbrev pub IsRefusedAt : Result Program ParseFault → Place → FunctionWhy → Type 0

@@ -18,25 +18,25 @@ path_text [] = []
 path_text (b ∷ bs) = map (λ b. shown b) (b ∷ bs) ++ codes ": "
 
 -- a place, and a colon and a blank
-abbrev pub place_text : Place → List ℕ
-place_text p = codes "line " ++ decimal p.line ++ codes ", column " ++ decimal p.column ++ codes ": "
+abbrev pub shown_place : Place → List ℕ
+shown_place p = codes "line " ++ decimal p.line ++ codes ", column " ++ decimal p.column ++ codes ": "
 
 -- the fault of a sync function's text
 abbrev pub fault_text : FunctionFault → List ℕ
-fault_text fault = place_text fault.place ++ function_words fault.why
+fault_text fault = shown_place fault.place ++ function_words fault.why
 
 -- why a member is bad, and of a sync function's text where
 abbrev pub why_text : ConfigWhy → Option FunctionFault → List ℕ
 why_text why None = config_words why
 why_text why (Some fault) = fault_text fault
 
-abbrev pub refusal_text : Refusal → List ℕ
-refusal_text r = path_text r.path ++ why_text r.why r.function
+abbrev pub refused_text : Refusal → List ℕ
+refused_text r = path_text r.path ++ why_text r.why r.function
 
 abbrev pub verdict_text : Verdict → List ℕ
 verdict_text Good = codes "good"
 verdict_text Long = codes "more than 1073741824 bytes"
-verdict_text (Bad r) = refusal_text r
+verdict_text (Bad r) = refused_text r
 
 -- the line, which has no other line feed
 abbrev pub verdict_line : Verdict → List ℕ

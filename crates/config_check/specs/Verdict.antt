@@ -7,7 +7,7 @@ use Rattle.sg_history.specs.declared.config_fault.ConfigWhy.{ConfigWhy}
 use Rattle.sg_history.specs.declared.config_fault.ConfigWhy.TheVariants as why
 use Rattle.sync_syntax.specs.Statements.{parsed}
 use Rattle.gateway_config.specs.Faults.{config_fault}
-use Rattle.gateway_config.specs.Members.{json_of, read_or}
+use Rattle.gateway_config.specs.Members.{config_json, read_or}
 use Rattle.gateway_config.specs.Values.{default_sync}
 use Rattle.config_check.specs.declared.function.FunctionFault.{FunctionFault}
 use Rattle.config_check.specs.declared.verdict.Refusal.{Refusal}
@@ -22,7 +22,7 @@ function_text d = read_or as_str default_sync (get (codes "sync") d)
 -- where the text of the sync function is refused and why, of a configuration with this first fault: that and no more where it is the text
 abbrev pub IsPlaced : List ℕ → ConfigWhy → Option FunctionFault → Type 0
 IsPlaced bytes why.Sync None = ⊥
-IsPlaced bytes why.Sync (Some fault) = (d : Data) × (json_of bytes ≡ Some d) × IsRefusedAt (parsed (function_text d)) fault.place fault.why
+IsPlaced bytes why.Sync (Some fault) = (d : Data) × (config_json bytes ≡ Some d) × IsRefusedAt (parsed (function_text d)) fault.place fault.why
 IsPlaced bytes why.NotJson function = function ≡ None
 IsPlaced bytes why.NotObject function = function ≡ None
 IsPlaced bytes why.Missing function = function ≡ None

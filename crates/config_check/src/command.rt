@@ -5,7 +5,7 @@ ghost use Rattle.sg_outside.specs.Files.{largest_file};
 ghost use Rattle.command_line.specs.Run.{Counted, EndsAbsent, EndsLoaded, HasFile, HasNoFile, Prints};
 ghost use Rattle.config_check.specs.Run as spec;
 ghost use Rattle.config_check.specs.Line.{verdict_line};
-ghost use Rattle.config_check.specs.Run.{Ends, IsFound, PrintsVerdict};
+ghost use Rattle.config_check.specs.Run.{EndsVerdict, IsFoundVerdict, PrintsVerdict};
 
 use crate::line::line_of;
 use crate::verdict::{Verdict, verdict_of};
@@ -19,7 +19,7 @@ const CONFIG: u64 = 1;
 
 /// How the run ends that said a verdict.
 fn status_of(verdict: Verdict) -> Status
-    ensures { result ≡ spec.status_of verdict }
+    ensures { result ≡ spec.verdict_status verdict }
 {
     match verdict {
         Verdict::Good => Status::Ok,
@@ -41,7 +41,7 @@ fn status_of(verdict: Verdict) -> Status
 
 /// What is said of a configuration that was loaded.
 fn verdict_on(alloc: Global, bytes: Bytes) -> Result<Verdict, Status>
-    ensures found { length bytes ≤ largest_file → IsFound bytes result }
+    ensures found { length bytes ≤ largest_file → IsFoundVerdict bytes result }
     ensures memory { IfErr result (λ status. status ≡ Status.Memory) }
 {
     let found = verdict_of(alloc, bytes.as_slice());
@@ -55,7 +55,7 @@ fn verdict_on(alloc: Global, bytes: Bytes) -> Result<Verdict, Status>
 /// What is said of the configuration in a file.
 fn verdict_in<F: Files>(alloc: Global, files: &mut F, path: &str) -> Result<Verdict, Status>
     ensures recorded { (bytes : List ℕ) → HasFile (F.recorded files.old) path.now bytes
-        → IsFound bytes result }
+        → IsFoundVerdict bytes result }
     ensures absent { HasNoFile (F.recorded files.old) path.now → IsErrAnd result EndsAbsent }
     ensures loaded { EndsLoaded result (F.faults files.old) (F.faults files.new) }
     ensures kept { F.recorded files.new ≡ F.recorded files.old }
@@ -97,7 +97,7 @@ fn print_verdict<O: Sink>(alloc: Global, verdict: Verdict, out: &mut O) -> Statu
 #[tactic(auto, using(crate::proofs::Runs::print_counted, crate::proofs::Runs::print_words))]
 fn check<F: Files, O: Sink>(alloc: Global, path: &str, files: &mut F, out: &mut O) -> Status
     ensures ends { (bytes : List ℕ) → HasFile (F.recorded files.old) path.now bytes
-        → Ends result bytes (O.taken out.old) (O.taken out.new) }
+        → EndsVerdict result bytes (O.taken out.old) (O.taken out.new) }
     ensures absent { HasNoFile (F.recorded files.old) path.now
         → EndsAbsent result × (O.taken out.new ≡ O.taken out.old) }
     ensures words { result ≢ Status.BadWords }
@@ -121,7 +121,7 @@ pub fn run<F: Files, O: Sink>(alloc: Global, words: &[String], files: &mut F, ou
     // The line says what the bytes of the file are, and the status follows it.
     ensures ends { (path bytes : List ℕ) → map (λ w. string_bytes w) words.now ≡ path ∷ []
         → HasFile (F.recorded files.old) path bytes
-        → Ends result bytes (O.taken out.old) (O.taken out.new) }
+        → EndsVerdict result bytes (O.taken out.old) (O.taken out.new) }
     ensures absent { (path : List ℕ) → map (λ w. string_bytes w) words.now ≡ path ∷ []
         → HasNoFile (F.recorded files.old) path
         → EndsAbsent result × (O.taken out.new ≡ O.taken out.old) }

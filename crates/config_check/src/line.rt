@@ -41,7 +41,7 @@ fn write_path(path: &str, out: &mut Bytes) -> Result<(), Memory>
 
 /// Puts a place at the end, and a colon and a blank.
 fn write_place(place: Place, out: &mut Bytes) -> Result<(), Memory>
-    ensures { OnOk result (out.new ≡ out.old ++ lines.place_text place) }
+    ensures { OnOk result (out.new ≡ out.old ++ lines.shown_place place) }
 {
     out.extend_from_slice(b"line ")?;
     write_decimal(u64::from(place.line), out)?;
@@ -60,7 +60,7 @@ fn write_fault(fault: &FunctionFault, out: &mut Bytes) -> Result<(), Memory>
 
 /// Puts what is wrong with a configuration at the end.
 fn write_refusal(refusal: &Refusal, out: &mut Bytes) -> Result<(), Memory>
-    ensures { OnOk result (out.new ≡ out.old ++ lines.refusal_text refusal.now) }
+    ensures { OnOk result (out.new ≡ out.old ++ lines.refused_text refusal.now) }
 {
     write_path(refusal.path.as_str(), out)?;
     match &refusal.function {

@@ -7,14 +7,14 @@ use Rattle.sg_history.specs.declared.entries.Write.{Write}
 use Rattle.rev_tree.specs.declared.leaf.Leaf.{Leaf}
 use Rattle.rev_tree.specs.declared.tree.Node.{Node}
 use Rattle.rev_tree.specs.Tree.{knows, winner_of}
-use Rattle.rev_tree.specs.Extension.{Verdict, is_known, has_bad_history, makes_conflict, extends_tree, falls, first_known, goes_on, kept_of, verdict_of, with_write}
+use Rattle.rev_tree.specs.Extension.{Verdict, is_known, has_bad_history, makes_conflict, extends_tree, falls, first_known, goes_on, kept_ancestors, verdict_of, with_write}
 use Rattle.rev_tree.specs.Writes.{is_accepted, path_of, only_last_known}
 use Rattle.rev_tree.specs.Documents.{recorded}
 use Rattle.doc_board.specs.Candidates.{ExtendsTree}
-use Rattle.doc_board.specs.Recorded.{Follows}
+use Rattle.doc_board.specs.Recorded.{FollowsTree}
 
 -- where none but the last ancestor is known all are kept
-all_kept : (tree : List Node) (ancestors : List RevId) → only_last_known tree ancestors ≡ true → kept_of tree ancestors ≡ length ancestors
+all_kept : (tree : List Node) (ancestors : List RevId) → only_last_known tree ancestors ≡ true → kept_ancestors tree ancestors ≡ length ancestors
 all_kept tree [] h = refl
 all_kept tree (a ∷ []) h = go (knows tree a)
   where
@@ -23,8 +23,8 @@ all_kept tree (a ∷ []) h = go (knows tree a)
     go false = omega arith
 all_kept tree (a ∷ b ∷ more) h =
     let parts = and_parts (not (knows tree a)) (only_last_known tree (b ∷ more)) h in
-    let rest : kept_of tree (b ∷ more) ≡ length (b ∷ more) = all_kept tree (b ∷ more) parts.1 in
-    ap (λ (known : Bool). if known then 1 else kept_of tree (b ∷ more) + 1) (not-true (knows tree a) parts.0) ∙ omega (arith, rest)
+    let rest : kept_ancestors tree (b ∷ more) ≡ length (b ∷ more) = all_kept tree (b ∷ more) parts.1 in
+    ap (λ (known : Bool). if known then 1 else kept_ancestors tree (b ∷ more) + 1) (not-true (knows tree a) parts.0) ∙ omega (arith, rest)
 
 -- ---- the verdict by its four tests
 
@@ -62,7 +62,7 @@ extending tree rev ancestors unknown falling few =
 
 -- ---- writes
 
-pub extension_follows : (before : List Node) (w : Write) (after : List Node) → ExtendsTree before w after → Follows before w
+pub extension_follows : (before : List Node) (w : Write) (after : List Node) → ExtendsTree before w after → FollowsTree before w
 extension_follows before w after extends =
     let parts = and_parts (not (knows before w.rev) && falls (path_of (recorded w))) (only_last_known before w.ancestors) extends.accepted in
     let first = and_parts (not (knows before w.rev)) (falls (path_of (recorded w))) parts.0 in

@@ -19,7 +19,7 @@ use Rattle.rev_tree.specs.Extension.{Recorded}
 use Rattle.rev_tree.specs.Writes.{tree_of}
 use Rattle.doc_board.specs.Kept.{AreRight, IsRightBy, is_written_by, follows_writes, trees_by}
 use Rattle.doc_board.specs.Lawful.{AreLawful}
-use Rattle.doc_board.specs.Recorded.{AreFollowing, Follows, IsFirstBad, WriteMayFollow}
+use Rattle.doc_board.specs.Recorded.{AreFollowing, FollowsTree, IsFirstRefused, WriteMayFollow}
 use Rattle.doc_board.proofs.Puts.{same_up_to}
 
 -- what the law of books says of revisions
@@ -84,12 +84,12 @@ module _ (same : SameOfRev) (h : List Entry) (book : Book) (is_of : (m : ℕ) �
   right_by : SameWrites → (k : ℕ) → k ≤ length h → (o : Option Write) (replaced : Option SyncEntry) → may_follow_by (past h k) o replaced ≡ true → WriteMayFollow (past h k) o → IsRightBy book (suc k) o
   right_by same_writes k low None replaced may next = tt
   right_by same_writes k low (Some w) replaced may next =
-      (next.0, rules_same k low w ∙ may, subst (λ (t : List Node). Follows t w) (sym (tree_same same_writes k low w.doc)) next.1)
+      (next.0, rules_same k low w ∙ may, subst (λ (t : List Node). FollowsTree t w) (sym (tree_same same_writes k low w.doc)) next.1)
 
   next_by : SameWrites → (k : ℕ) → k ≤ length h → (o : Option Write) → IsRightBy book (suc k) o → WriteMayFollow (past h k) o
   next_by same_writes k low None right = tt
   next_by same_writes k low (Some w) right =
-      (right.0, subst (λ (t : List Node). Follows t w) (tree_same same_writes k low w.doc) right.2)
+      (right.0, subst (λ (t : List Node). FollowsTree t w) (tree_same same_writes k low w.doc) right.2)
 
   -- the log of a book whose entries are right is lawful
   lawful_up_to : AreRight book → (k : ℕ) → k ≤ length h → AreLawful (past h k)
@@ -163,7 +163,7 @@ right_log same same_writes h lawful following (suc k) e is = go (slice_get h k) 
         )
 
 -- no entry of entries that a board may have is the first that it may not
-pub none_bad : (h : List Entry) (sequence : ℕ) → AreFollowing (reverse h) → ¬ IsFirstBad h sequence
+pub none_bad : (h : List Entry) (sequence : ℕ) → AreFollowing (reverse h) → ¬ IsFirstRefused h sequence
 none_bad h sequence following bad =
     let low : bad.place < length h = slice_get_within h bad.place bad.bad bad.there in
     let left = difference (suc bad.place) (length h) (omega (arith, low)) in

@@ -9,7 +9,7 @@ use Rattle.sg_history.specs.Board.{BoardState, board_book}
 use Rattle.sg_history.specs.Book.{Book, Keeps, Later, book_of, entry_or, waiting_at, write_at, written_in, writes_up_to, first_write, first_of_rev}
 use Rattle.sg_history.specs.Current.{Sequenced, sequenced_before, write_alone}
 use Rattle.rev_tree.specs.Documents.{base_in, recorded, rev_written_in, sequence_of}
-use Rattle.rev_tree.specs.Extension.{first_of, kept_of}
+use Rattle.rev_tree.specs.Extension.{first_of, kept_ancestors}
 use Rattle.rev_tree.specs.Tree.{knows, winner_of}
 use Rattle.rev_tree.specs.Writes.{tree_of}
 use Rattle.rev_tree.specs.declared.tree.Node.{Node}
@@ -105,15 +105,15 @@ board_writes board book doc on = go (first_write (writes_up_to (board_book board
         (same_writes (board_book board) book doc last.seq last.write on (last_is board doc last is).there last.seq (omega arith))
 
 -- the first ancestor is among those that are kept
-first_taken : (tree : List Node) (ancestors : List RevId) → first_of (take (kept_of tree ancestors) ancestors) ≡ first_of ancestors
+first_taken : (tree : List Node) (ancestors : List RevId) → first_of (take (kept_ancestors tree ancestors) ancestors) ≡ first_of ancestors
 first_taken tree [] = refl
 first_taken tree (a ∷ more) = go (knows tree a)
   where
-    go : (b : Bool) → first_of (take (if b then 1 else kept_of tree more + 1) (a ∷ more)) ≡ Some a
+    go : (b : Bool) → first_of (take (if b then 1 else kept_ancestors tree more + 1) (a ∷ more)) ≡ Some a
     go true = refl
     go false = ap (λ (n : ℕ). first_of (take n (a ∷ more))) one_more
       where
-        one_more : kept_of tree more + 1 ≡ suc (kept_of tree more)
+        one_more : kept_ancestors tree more + 1 ≡ suc (kept_ancestors tree more)
         one_more = omega arith
 
 module _ (program : Program) (es : List Entry) (said : Found Effects) where

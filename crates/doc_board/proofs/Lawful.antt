@@ -21,7 +21,7 @@ use Rattle.rev_tree.specs.declared.tree.Node.{Node}
 use Rattle.rev_tree.specs.Order.{first_leaf, sooner, comes_before}
 use Rattle.rev_tree.specs.Tree.{knows, winner_of}
 use Rattle.rev_tree.specs.Extension.{Recorded, falls}
-use Rattle.rev_tree.specs.Writes.{among, path_of, revisions, Pair, neighbours, pairs, is_parent_in, is_deleted_in, leaves_in, winner_in, tree_of, only_last_known, AreAccepted}
+use Rattle.rev_tree.specs.Writes.{rev_among, path_of, revisions, RevPair, neighbours, pairs, is_parent_in, is_deleted_in, leaves_in, winner_in, tree_of, only_last_known, AreAccepted}
 use Rattle.rev_tree.proofs.Sames.{same_is_equal, same_itself}
 use Rattle.doc_board.specs.Candidates.{ExtendsTree}
 use Rattle.rev_tree.specs.Documents.{recorded, writes_in, tree_in}
@@ -35,7 +35,7 @@ same_some a b h = ap (held a) h
 
 -- what the laws of trees say of the tree of accepted writes
 abbrev pub SameRevisions : Type 0
-SameRevisions = (ws : List Recorded) (rev : RevId) → AreAccepted ws → knows (tree_of ws) rev ≡ among (revisions ws) rev
+SameRevisions = (ws : List Recorded) (rev : RevId) → AreAccepted ws → knows (tree_of ws) rev ≡ rev_among (revisions ws) rev
 
 abbrev pub SameWinner : Type 0
 SameWinner = (ws : List Recorded) → AreAccepted ws → winner_of (tree_of ws) ≡ winner_in ws
@@ -46,39 +46,39 @@ SameWinner = (ws : List Recorded) → AreAccepted ws → winner_of (tree_of ws) 
 abbrev pub is_written : List Recorded → RevId → Bool
 is_written ws rev = list_any (λ (w : Recorded). same_rev w.rev rev) ws
 
-among-append : (xs ys : List RevId) (rev : RevId) → among (xs ++ ys) rev ≡ (among xs rev || among ys rev)
+among-append : (xs ys : List RevId) (rev : RevId) → rev_among (xs ++ ys) rev ≡ (rev_among xs rev || rev_among ys rev)
 among-append xs ys rev = list_any-append (λ (r : RevId). same_rev r rev) xs ys
 
-written_among : (ws : List Recorded) (rev : RevId) → is_written ws rev ≡ true → among (revisions ws) rev ≡ true
+written_among : (ws : List Recorded) (rev : RevId) → is_written ws rev ≡ true → rev_among (revisions ws) rev ≡ true
 written_among [] rev h = h
 written_among (w ∷ older) rev h =
     elim (or_cases (same_rev w.rev rev) (is_written older rev) h) [
-      | inl a ↦ or_left (same_rev w.rev rev) (among (w.ancestors ++ revisions older) rev) a
-      | inr o ↦ or_right (same_rev w.rev rev) _ (among-append w.ancestors (revisions older) rev ∙ or_right (among w.ancestors rev) _ (written_among older rev o))
+      | inl a ↦ or_left (same_rev w.rev rev) (rev_among (w.ancestors ++ revisions older) rev) a
+      | inr o ↦ or_right (same_rev w.rev rev) _ (among-append w.ancestors (revisions older) rev ∙ or_right (rev_among w.ancestors rev) _ (written_among older rev o))
     ]
 
 -- ---- a revision that is no parent was written
 
-parents_listed : (x : RevId) (ancestors : List RevId) (rev : RevId) → list_any (λ (p : Pair). same_rev p.parent rev) (neighbours (x ∷ ancestors)) ≡ among ancestors rev
+parents_listed : (x : RevId) (ancestors : List RevId) (rev : RevId) → list_any (λ (p : RevPair). same_rev p.parent rev) (neighbours (x ∷ ancestors)) ≡ rev_among ancestors rev
 parents_listed x [] rev = refl
 parents_listed x (a ∷ more) rev = ap (λ (b : Bool). same_rev a rev || b) (parents_listed a more rev)
 
-parents_with : (w : Recorded) (older : List Recorded) (rev : RevId) → is_parent_in (w ∷ older) rev ≡ (among w.ancestors rev || is_parent_in older rev)
+parents_with : (w : Recorded) (older : List Recorded) (rev : RevId) → is_parent_in (w ∷ older) rev ≡ (rev_among w.ancestors rev || is_parent_in older rev)
 parents_with w older rev =
-    let test : Pair → Bool = λ p. same_rev p.parent rev in
+    let test : RevPair → Bool = λ p. same_rev p.parent rev in
     list_any-append test (neighbours (path_of w)) (pairs older) ∙ ap (λ (b : Bool). b || is_parent_in older rev) (parents_listed w.rev w.ancestors rev)
 
-no_parent_written : (ws : List Recorded) (rev : RevId) → among (revisions ws) rev ≡ true → is_parent_in ws rev ≡ false → is_written ws rev ≡ true
+no_parent_written : (ws : List Recorded) (rev : RevId) → rev_among (revisions ws) rev ≡ true → is_parent_in ws rev ≡ false → is_written ws rev ≡ true
 no_parent_written [] rev h none = h
 no_parent_written (w ∷ older) rev h none =
-    let parent : (among w.ancestors rev || is_parent_in older rev) ≡ false = sym (parents_with w older rev) ∙ none in
-    elim (or_cases (same_rev w.rev rev) (among (w.ancestors ++ revisions older) rev) h) [
+    let parent : (rev_among w.ancestors rev || is_parent_in older rev) ≡ false = sym (parents_with w older rev) ∙ none in
+    elim (or_cases (same_rev w.rev rev) (rev_among (w.ancestors ++ revisions older) rev) h) [
       | inl a ↦ or_left (same_rev w.rev rev) (is_written older rev) a
       | inr o ↦
-          elim (or_cases (among w.ancestors rev) (among (revisions older) rev) (sym (among-append w.ancestors (revisions older) rev) ∙ o)) [
-            | inl a ↦ absurd (both_ways _ parent (or_left (among w.ancestors rev) (is_parent_in older rev) a))
+          elim (or_cases (rev_among w.ancestors rev) (rev_among (revisions older) rev) (sym (among-append w.ancestors (revisions older) rev) ∙ o)) [
+            | inl a ↦ absurd (both_ways _ parent (or_left (rev_among w.ancestors rev) (is_parent_in older rev) a))
             | inr r ↦
-                or_right (same_rev w.rev rev) _ (no_parent_written older rev r (false_from_ne_true (is_parent_in older rev) (λ p. both_ways _ parent (or_right (among w.ancestors rev) (is_parent_in older rev) p))))
+                or_right (same_rev w.rev rev) _ (no_parent_written older rev r (false_from_ne_true (is_parent_in older rev) (λ p. both_ways _ parent (or_right (rev_among w.ancestors rev) (is_parent_in older rev) p))))
           ]
     ]
 
@@ -87,17 +87,17 @@ no_parent_written (w ∷ older) rev h none =
 abbrev leaf_with : (RevId → Bool) → RevId → Leaf
 leaf_with deleted r = record { rev = r; deleted = deleted r }
 
-leaf_listed : (parent deleted : RevId → Bool) (revs : List RevId) (rev : RevId) → list_any (λ (l : Leaf). same_rev l.rev rev) (map (λ r. leaf_with deleted r) (filter (λ r. not (parent r)) revs)) ≡ true → (parent rev ≡ false) × (among revs rev ≡ true)
+leaf_listed : (parent deleted : RevId → Bool) (revs : List RevId) (rev : RevId) → list_any (λ (l : Leaf). same_rev l.rev rev) (map (λ r. leaf_with deleted r) (filter (λ r. not (parent r)) revs)) ≡ true → (parent rev ≡ false) × (rev_among revs rev ≡ true)
 leaf_listed parent deleted [] rev h = absurd (both_ways false refl h)
 leaf_listed parent deleted (r ∷ more) rev h =
     elim (cases_Bool (parent r)) [
       | inl p ↦
           let rest = leaf_listed parent deleted more rev (rw p at h) in
-          (rest.0, or_right (same_rev r rev) (among more rev) rest.1)
+          (rest.0, or_right (same_rev r rev) (rev_among more rev) rest.1)
       | inr p ↦
           elim (or_cases (same_rev r rev) _ (rw p at h)) [
-            | inl s ↦ (ap parent (sym (same_is_equal r rev s)) ∙ p, or_left (same_rev r rev) (among more rev) s)
-            | inr o ↦ let rest = leaf_listed parent deleted more rev o in (rest.0, or_right (same_rev r rev) (among more rev) rest.1)
+            | inl s ↦ (ap parent (sym (same_is_equal r rev s)) ∙ p, or_left (same_rev r rev) (rev_among more rev) s)
+            | inr o ↦ let rest = leaf_listed parent deleted more rev o in (rest.0, or_right (same_rev r rev) (rev_among more rev) rest.1)
           ]
     ]
 

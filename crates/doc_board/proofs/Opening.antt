@@ -17,7 +17,7 @@ use Rattle.doc_board.specs.declared.document.Document.{Document}
 use Rattle.doc_board.specs.Boards.{bytes_stored}
 use Rattle.doc_board.specs.Kept.{AreKept, HasNoneAbove, IsBoard, document_at, document_with}
 use Rattle.doc_board.specs.Lawful.{AreLawful}
-use Rattle.doc_board.specs.Recorded.{AreFollowing, IsFirstBad}
+use Rattle.doc_board.specs.Recorded.{AreFollowing, IsFirstRefused}
 use Rattle.doc_board.specs.declared.open.OpenFault.{OpenFault}
 use Rattle.doc_board.specs.declared.open.OpenFault.TheVariants.{Bad, Memory}
 use Rattle.doc_board.proofs.Documents.{Documents}
@@ -91,6 +91,6 @@ opened same_writes same_last same_rev log documents p bases spare stored rooms n
     (opened_with same_writes same_last same_rev log documents p.spare bases spare stored kept accepted following lawful bytes))
 
 -- a log that a board may have is refused for memory alone
-pub memory_alone : (h : List Entry) (fault : OpenFault) → ((sequence : ℕ) → fault ≡ Bad sequence → IsFirstBad h sequence) → AreFollowing (reverse h) → fault ≡ Memory
+pub memory_alone : (h : List Entry) (fault : OpenFault) → ((sequence : ℕ) → fault ≡ Bad sequence → IsFirstRefused h sequence) → AreFollowing (reverse h) → fault ≡ Memory
 memory_alone h (Bad sequence) bad following = absurd (none_bad h sequence following (bad sequence refl))
 memory_alone h Memory bad following = refl

@@ -21,7 +21,7 @@ use Rattle.doc_board.specs.Boards.{body_size, bytes_stored, bytes_waiting}
 use Rattle.doc_board.specs.Candidates.{ExtendsTree, IsPlain}
 use Rattle.doc_board.specs.Kept.{AreRight, AreBases, HasNoneAbove, IsKept, IsRightBy, below, follows_writes, trees_by}
 use Rattle.doc_board.specs.Lawful.{AreEntries}
-use Rattle.doc_board.specs.Recorded.{Follows, HasDocument}
+use Rattle.doc_board.specs.Recorded.{FollowsTree, HasDocument}
 use Rattle.doc_board.proofs.Documents.{Documents, same_names}
 use Rattle.doc_board.proofs.Following.{extension_follows}
 use Rattle.doc_board.proofs.Lawful.{SameRevisions, SameWinner, follows}
@@ -89,7 +89,7 @@ module _ (old new : Book) (n : ℕ) (e : Entry) (from : 1 ≤ n) (free : old n �
       let same = puts.below_old old new n e from free put above m x v there is in (
         right.0,
         subst (λ (ws : List Sequenced). IsTrue (follows_writes ws m v)) (sym same) right.1,
-        subst (λ (ws : List Sequenced). Follows (trees_by ws) v) (sym same) right.2,
+        subst (λ (ws : List Sequenced). FollowsTree (trees_by ws) v) (sym same) right.2,
       )
 
   right_more : AreRight old → IsEntry e × IsRightBy new n (as_write e) × (is_sync e ≡ false) → AreRight new
@@ -253,7 +253,7 @@ module _ (old new : Book) (n : ℕ) (w : Write) (from : 1 ≤ n) (free : old n �
         body,
         subst (λ (ws : List Sequenced). IsTrue (follows_writes ws n w)) (sym below_it)
             (follows same_revisions same_winner w (writes_up_to old whole w.doc) n tree (kept.accepted whole over_whole w.doc) extends judged),
-        subst (λ (ws : List Sequenced). Follows (trees_by ws) w) (sym below_it) (extension_follows (tree_in old whole w.doc) w tree extends),
+        subst (λ (ws : List Sequenced). FollowsTree (trees_by ws) w) (sym below_it) (extension_follows (tree_in old whole w.doc) w tree extends),
       ),
       refl,
     );

@@ -6,7 +6,7 @@ use Rattle.rev_tree.specs.declared.tree.Node.{Node}
 use Rattle.rev_tree.specs.declared.extend.Extended.{Extended}
 use Rattle.rev_tree.specs.declared.extend.Extended.TheVariants.{NewTree, Known, BadHistory400, Conflict409, Memory}
 use Rattle.rev_tree.specs.Tree.{winner_of}
-use Rattle.rev_tree.specs.Extension.{Recorded, verdict_of, is_known, has_bad_history, makes_conflict, extends_tree, kept_of, with_write}
+use Rattle.rev_tree.specs.Extension.{Recorded, verdict_of, is_known, has_bad_history, makes_conflict, extends_tree, kept_ancestors, with_write}
 use Rattle.rev_tree.specs.Writes.{is_accepted}
 use Rattle.repl_messages.specs.declared.revision.Revision.{Revision}
 
@@ -16,7 +16,7 @@ recorded_with r kept = record { rev = r.rev; ancestors = take kept r.ancestors; 
 
 -- the new tree is the one with the revision, on the ancestors that it keeps
 pub record IsNewTree (before : List Node) (r : Revision) (after : List Node) (kept : ℕ) : Type 0 where
-  pub ancestors : kept ≡ kept_of before r.ancestors
+  pub ancestors : kept ≡ kept_ancestors before r.ancestors
   pub within : kept ≤ length r.ancestors
   pub accepted : IsTrue (is_accepted before (recorded_with r kept))
   pub tree : after ≡ with_write before (recorded_with r kept)

@@ -21,7 +21,7 @@ use Rattle.rev_tree.specs.Writes.{AreAccepted, tree_of}
 use Rattle.doc_board.specs.declared.document.Document.{Document}
 use Rattle.sg_history.specs.declared.room.RoomFor.{RoomFor}
 use Rattle.doc_board.specs.Boards.{bytes_stored, bytes_waiting}
-use Rattle.doc_board.specs.Recorded.{Follows, HasDocument}
+use Rattle.doc_board.specs.Recorded.{FollowsTree, HasDocument}
 use Rattle.rev_tree.specs.Documents.{recorded, sequence_of, writes_in, writes_of, tree_at, last_at}
 
 -- what is to be kept of a document after these entries, the newest first
@@ -97,7 +97,7 @@ follows_writes ws number w =
 -- a write at a number of a book, where there is one: its body is a document, it follows the rules after the writes of its document below, and the tree of those accepts it
 abbrev pub IsRightBy : Book → ℕ → Option Write → Type 0
 IsRightBy book number None = Unit {0}
-IsRightBy book number (Some w) = HasDocument w.body × IsTrue (follows_writes (below book number w.doc) number w) × Follows (trees_by (below book number w.doc)) w
+IsRightBy book number (Some w) = HasDocument w.body × IsTrue (follows_writes (below book number w.doc) number w) × FollowsTree (trees_by (below book number w.doc)) w
 
 -- each entry of a book is in its grammar, right where it is a write, and replaces no sync function
 abbrev pub AreRight : Book → Type 0

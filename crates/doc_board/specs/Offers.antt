@@ -18,8 +18,8 @@ wins None parent = false
 wins (Some winner) parent = is_this parent winner.rev
 
 -- what is answered for an offer by the tree of its document
-abbrev pub answer_to : List Node → Offer → OfferAnswer
-answer_to tree offer = record {
+abbrev pub offer_answer : List Node → Offer → OfferAnswer
+offer_answer tree offer = record {
   known = knows tree offer.rev;
   winner = winner_of tree;
   parent = is_some offer.parent;

@@ -8,7 +8,7 @@ use Rattle.sg_history.specs.declared.entries.Write.{Write}
 use Rattle.sg_history.specs.Board.{BoardState}
 use Rattle.rev_tree.specs.Documents.{recorded}
 use Rattle.rev_tree.specs.Tree.{winner_of}
-use Rattle.rev_tree.specs.Extension.{Verdict, verdict_of, is_known, has_bad_history, makes_conflict, extends_tree, kept_of, with_write}
+use Rattle.rev_tree.specs.Extension.{Verdict, verdict_of, is_known, has_bad_history, makes_conflict, extends_tree, kept_ancestors, with_write}
 use Rattle.repl_messages.specs.declared.request.Field.{Field}
 use Rattle.repl_messages.specs.declared.request.Field.TheVariants as field
 use Rattle.repl_messages.specs.declared.revision.Revision.{Revision}
@@ -45,17 +45,17 @@ pub record IsTooLarge (r : Revision) (bytes : ℕ) : Type 0 where
   pub above : 20971520 < length r.body
 
 -- the first part of the revision that is bad, where its body is not too large
-abbrev pub IsBadField : Revision → Field → Type 0
-IsBadField r field.Id = is_doc_id r.doc ≡ false
-IsBadField r field.Rev = IsTrue (is_doc_id r.doc) × (is_rev r.rev ≡ false)
-IsBadField r field.History = IsTrue (is_doc_id r.doc) × IsTrue (is_rev r.rev) × (is_revs r.ancestors ≡ false)
-IsBadField r field.Body = IsNamed r × (length r.body ≤ 20971520) × (¬ HasDocument r.body)
-IsBadField r field.Client = ⊥
-IsBadField r field.Since = ⊥
-IsBadField r field.Batch = ⊥
-IsBadField r field.Filter = ⊥
-IsBadField r field.Channels = ⊥
-IsBadField r field.Rows = ⊥
+abbrev pub IsBadPart : Revision → Field → Type 0
+IsBadPart r field.Id = is_doc_id r.doc ≡ false
+IsBadPart r field.Rev = IsTrue (is_doc_id r.doc) × (is_rev r.rev ≡ false)
+IsBadPart r field.History = IsTrue (is_doc_id r.doc) × IsTrue (is_rev r.rev) × (is_revs r.ancestors ≡ false)
+IsBadPart r field.Body = IsNamed r × (length r.body ≤ 20971520) × (¬ HasDocument r.body)
+IsBadPart r field.Client = ⊥
+IsBadPart r field.Since = ⊥
+IsBadPart r field.Batch = ⊥
+IsBadPart r field.Filter = ⊥
+IsBadPart r field.Channels = ⊥
+IsBadPart r field.Rows = ⊥
 
 -- ---- a revision by a board
 
@@ -82,7 +82,7 @@ IsAccepted program by r board = (effects : Effects) × IsSaid program by r board
 
 -- the outcome of a revision that is proposed, under a program and strictness or not, by a user or by the administrator, as far as it is judged; out of memory may come at any
 abbrev pub IsOutcome : Program → Bool → Option (List ℕ) → Revision → BoardState → Outcome → Type 0
-IsOutcome program strict by r board (outcome.Bad400 bad) = IsBadField r bad
+IsOutcome program strict by r board (outcome.Bad400 bad) = IsBadPart r bad
 IsOutcome program strict by r board (outcome.TooLarge413 bytes) = IsTooLarge r bytes
 IsOutcome program strict by r board (outcome.UserGone401 at) = IsUserGone by r board at
 IsOutcome program strict by r board (outcome.Known at) = IsJudged strict by r board is_known at
@@ -122,7 +122,7 @@ effects_in w = record { channels = w.channels; grants = w.grants; roles = w.role
 pub record IsWriteOf (program : Program) (author : Option (List ℕ)) (r : Revision) (board : BoardState) (w : Write) : Type 0 where
   pub doc : w.doc ≡ r.doc
   pub rev : w.rev ≡ r.rev
-  pub ancestors : w.ancestors ≡ take (kept_of (board_tree board r.doc) r.ancestors) r.ancestors
+  pub ancestors : w.ancestors ≡ take (kept_ancestors (board_tree board r.doc) r.ancestors) r.ancestors
   pub deleted : w.deleted ≡ r.deleted
   pub body : w.body ≡ body_or_empty r.body
   pub by : w.by ≡ author

@@ -7,7 +7,7 @@ use Rattle.json_doc.specs.Tree.{Tree}
 use Rattle.json_doc.specs.Reading.{IsDocument}
 use Rattle.rev_tree.specs.declared.tree.Node.{Node}
 use Rattle.rev_tree.specs.Tree.{winner_of}
-use Rattle.rev_tree.specs.Extension.{verdict_of, extends_tree, kept_of, with_write}
+use Rattle.rev_tree.specs.Extension.{verdict_of, extends_tree, kept_ancestors, with_write}
 use Rattle.rev_tree.specs.Documents.{recorded, tree_at}
 
 -- the bytes are a document
@@ -15,19 +15,19 @@ abbrev pub HasDocument : List ℕ → Type 0
 HasDocument bytes = (doc : Tree) × IsDocument bytes doc
 
 -- the tree accepts the write with all its ancestors, and the write names the winner of the tree with it
-pub record Follows (before : List Node) (w : Write) : Type 0 where
+pub record FollowsTree (before : List Node) (w : Write) : Type 0 where
   pub accepted : verdict_of before w.rev w.ancestors false ≡ extends_tree
-  pub kept : kept_of before w.ancestors ≡ length w.ancestors
+  pub kept : kept_ancestors before w.ancestors ≡ length w.ancestors
   pub winner : option_map (λ l. l.rev) (winner_of (with_write before (recorded w))) ≡ Some w.winner
 
 -- besides, its body is a document
-abbrev pub IsNextWrite : List Node → Write → Type 0
-IsNextWrite before w = HasDocument w.body × Follows before w
+abbrev pub IsFollowingWrite : List Node → Write → Type 0
+IsFollowingWrite before w = HasDocument w.body × FollowsTree before w
 
 -- a write that a board may have after these, where there is one
 abbrev pub WriteMayFollow : List Entry → Option Write → Type 0
 WriteMayFollow older None = Unit {0}
-WriteMayFollow older (Some w) = IsNextWrite (tree_at older w.doc) w
+WriteMayFollow older (Some w) = IsFollowingWrite (tree_at older w.doc) w
 
 -- an entry that a board may have after these, the newest first: it replaces no sync function
 abbrev pub MayFollow : List Entry → Entry → Type 0
@@ -39,7 +39,7 @@ AreFollowing [] = Unit {0}
 AreFollowing (e ∷ older) = MayFollow older e × AreFollowing older
 
 -- the entry of this sequence is the first that a board may not have after those before it
-pub record IsFirstBad (h : List Entry) (sequence : ℕ) : Type 0 where
+pub record IsFirstRefused (h : List Entry) (sequence : ℕ) : Type 0 where
   pub place : ℕ
   pub bad : Entry
   pub next : sequence ≡ place + 1

@@ -6,7 +6,7 @@ ghost use Rattle.sg_history.specs.Book.{waiting_at};
 ghost use Rattle.sg_history.specs.History.{entries_of, among};
 ghost use Rattle.sg_history.specs.Principals as principals;
 ghost use Rattle.checkpoint_store.specs.Answers as kept;
-ghost use Rattle.checkpoint_store.specs.Checkpoints.{AreCheckpoints, pair_text};
+ghost use Rattle.checkpoint_store.specs.Checkpoints.{AreCheckpoints, checkpoint_text};
 ghost use Rattle.grant_history.specs.inner.Sorted.{AreSorted};
 ghost use Rattle.grant_history.specs.Stands.{StandsFor};
 ghost use Rattle.pending_front.specs.Storing.{MayStore};
@@ -23,7 +23,7 @@ ghost use Rattle.sg_history.specs.Rooms.{without_room};
 ghost use Rattle.doc_board.specs.Lawful.{AreLawful, AreEntries};
 ghost use Rattle.doc_board.specs.Limits as limits;
 ghost use Rattle.doc_board.specs.Limits.{IsRefusedBy};
-ghost use Rattle.doc_board.specs.Recorded.{HasDocument, AreFollowing, IsFirstBad};
+ghost use Rattle.doc_board.specs.Recorded.{HasDocument, AreFollowing, IsFirstRefused};
 ghost use Rattle.doc_board.specs.Rooms.{is_outstanding, room_for};
 ghost use Rattle.doc_board.specs.State.{newest_first, book_on, writes_on, tree_on, last_on, base_on};
 ghost use Rattle.doc_board.specs.Steps.{history_on, stored_at, swapped_to, with_entry};
@@ -133,7 +133,7 @@ impl Board {
         ensures known { IfOk result (λ board. board.known ≡ 0) }
         ensures reads { IfOk result (λ board. board.reads ≡ 0) }
         ensures following { IfOk result (λ board. AreFollowing (reverse (entries_of log))) }
-        ensures bad { (sequence : ℕ) → result ≡ Err (OpenFault.Bad sequence) → IsFirstBad
+        ensures bad { (sequence : ℕ) → result ≡ Err (OpenFault.Bad sequence) → IsFirstRefused
             (entries_of log) sequence }
         ensures accepts { AreFollowing (reverse (entries_of log))
             → IfErr result (λ fault. fault ≡ OpenFault.Memory) }
@@ -272,7 +272,7 @@ impl Board {
     /// The checkpoint of a user's client, with its whole body.
     pub fn get_checkpoint(&self, user: &Name, client: &Client) -> Result<Kept0, Memory>
         ensures kept { IfOk result (λ found. found
-            ≡ kept.kept_at self.now.checkpoints (pair_text user.now client.now)) }
+            ≡ kept.kept_at self.now.checkpoints (checkpoint_text user.now client.now)) }
         ensures checkpoints { AreCheckpoints self.now.checkpoints }
     {
         self.checkpoints.get(user, client)
@@ -286,7 +286,7 @@ impl Board {
         rev: u64,
         body: Bytes,
     ) -> SetAnswer
-        ensures sets { kept.Sets self.old.checkpoints (pair_text user.now client.now) rev body
+        ensures sets { kept.Sets self.old.checkpoints (checkpoint_text user.now client.now) rev body
             result self.new.checkpoints }
         ensures checkpoints { AreCheckpoints self.new.checkpoints }
         ensures log { self.new.log ≡ self.old.log }

@@ -40,7 +40,7 @@ fn wins(winner: Option<&Leaf>, parent: &Option<RevId>) -> bool
 }
 
 fn answer_by(alloc: Global, tree: &Tree, offer: &Offer) -> Result<OfferAnswer, AllocError>
-    ensures { IfOk result (λ answer. answer ≡ offers.answer_to tree.now offer.now) }
+    ensures { IfOk result (λ answer. answer ≡ offers.offer_answer tree.now offer.now) }
 {
     let known = tree.knows(&offer.rev);
     let ancestors = if known {
@@ -69,7 +69,7 @@ pub fn answer_offer(
     tree: Option<&Tree>,
     offer: &Offer,
 ) -> Result<OfferAnswer, Memory>
-    ensures { IfOk result (λ answer. answer ≡ offers.answer_to
+    ensures { IfOk result (λ answer. answer ≡ offers.offer_answer
         (offers.nodes_or_none (option_copied tree.entry)) offer.now) }
 {
     let empty = Tree::new(alloc);

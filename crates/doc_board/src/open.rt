@@ -9,7 +9,7 @@ ghost use Rattle.rev_tree.specs.Writes.{AreAccepted};
 ghost use Rattle.doc_board.specs.Boards.{body_size, bytes_stored};
 ghost use Rattle.doc_board.specs.Candidates.{ExtendsTree};
 ghost use Rattle.doc_board.specs.Kept.{AreKept, kept_nodes};
-ghost use Rattle.doc_board.specs.Recorded.{HasDocument, IsNextWrite, MayFollow, Follows, AreFollowing, IsFirstBad};
+ghost use Rattle.doc_board.specs.Recorded.{HasDocument, IsFollowingWrite, MayFollow, FollowsTree, AreFollowing, IsFirstRefused};
 ghost use Rattle.rev_tree.specs.Documents.{writes_of};
 
 use crate::document::{self, Document, Documents};
@@ -58,8 +58,8 @@ fn wins(tree: &Tree, rev: &RevId) -> bool
 fn extended(tree: &Tree, write: &Write) -> Result<Option<Tree>, AllocError>
     ensures some { IfOk result (λ found. IfSome found
         (λ after. ExtendsTree tree.now write.now after)) }
-    ensures follows { IfOk result (λ found. IfSome found (λ after. Follows tree.now write.now)) }
-    ensures none { IfOk result (λ found. IfNone found (¬ Follows tree.now write.now)) }
+    ensures follows { IfOk result (λ found. IfSome found (λ after. FollowsTree tree.now write.now)) }
+    ensures none { IfOk result (λ found. IfNone found (¬ FollowsTree tree.now write.now)) }
 {
     let ancestors = write.ancestors.as_slice();
     match tree.extend(&write.rev, write.deleted, ancestors, false) {
@@ -98,9 +98,9 @@ fn tree_after(
         (λ after. ExtendsTree (kept_nodes
         (get_by_text documents.now write.now.doc)) write.now after)) }
     ensures next { IfOk result (λ found. IfSome found
-        (λ after. IsNextWrite (kept_nodes (get_by_text documents.now write.now.doc)) write.now)) }
+        (λ after. IsFollowingWrite (kept_nodes (get_by_text documents.now write.now.doc)) write.now)) }
     ensures none { IfOk result (λ found. IfNone found
-        (¬ IsNextWrite (kept_nodes (get_by_text documents.now write.now.doc)) write.now)) }
+        (¬ IsFollowingWrite (kept_nodes (get_by_text documents.now write.now.doc)) write.now)) }
 {
     if !is_document(alloc, write.body.as_slice())? {
         return Ok(None);
@@ -182,7 +182,7 @@ fn take_all(alloc: Global, documents: &mut Documents, entries: &[Entry]) -> Resu
         (writes_of (reverse entries.now) doc)) }
     ensures following { OnOk result (AreFollowing (reverse entries.now)) }
     ensures bad { (sequence : ℕ) → result ≡ Err (OpenFault.Bad sequence)
-        → IsFirstBad entries.now sequence }
+        → IsFirstRefused entries.now sequence }
 {
     for (i, entry) in entries.iter().enumerate() {
         let older = &entries[..i];
@@ -202,7 +202,7 @@ pub(crate) fn documents_of(alloc: Global, entries: &[Entry]) -> Result<Documents
         (writes_of (reverse entries.now) doc)) }
     ensures following { IfOk result (λ documents. AreFollowing (reverse entries.now)) }
     ensures bad { (sequence : ℕ) → result ≡ Err (OpenFault.Bad sequence)
-        → IsFirstBad entries.now sequence }
+        → IsFirstRefused entries.now sequence }
 {
     let mut documents = BTreeMap::new(alloc);
     match take_all(alloc, &mut documents, entries) {

@@ -12,8 +12,8 @@ use Rattle.sg_names.specs.Key.{ReadsKey}
 use Rattle.sg_names.specs.Grammar.{is_name}
 use Rattle.sg_history.specs.declared.row.Options.{Options}
 use Rattle.command_line.specs.CommandLines.{feed_app}
-use Rattle.command_line.specs.FeedWords.{FeedWords, HasFeedValues, IsFeedWords, is_channel_list, names_in, options_of}
-use Rattle.command_line.specs.Matches.{Takes}
+use Rattle.command_line.specs.FeedWords.{FeedWords, HasFeedValues, IsFeedWords, is_channel_list, names_between_commas, feed_options}
+use Rattle.command_line.specs.Matches.{TakesWords}
 use Rattle.feed_command.specs.PlainWords.{AreRead, AskFor, ListsAskForFilters, is_plain_word, whole_feed}
 use Rattle.feed_command.proofs.PlainWords.{at_place, option_fault, option_walked, plain_walked, plain_words_fault, waits_for}
 
@@ -50,9 +50,9 @@ three_fault h j u s ej eu es =
     ∙ ap (or_else (place_fault 2 (held_at 1 j h))) (plain_words_fault line (held_at 2 u (held_at 1 j h)) 3 s [] es))
 
 -- words that are taken, and whose matches have these values
-from_values : (words : List Text) (rows : List Row) (j u s : Text) (options : Options) (f : FeedWords) → Takes feed_app words → matches_of feed_app words ≡ rows
+from_values : (words : List Text) (rows : List Row) (j u s : Text) (options : Options) (f : FeedWords) → TakesWords feed_app words → matches_of feed_app words ≡ rows
     → first_of (codes "journal") rows ≡ Some j → first_of (codes "user") rows ≡ Some u → first_of (codes "since") rows ≡ Some s
-    → IsTrue (option_map_or is_channel_list (first_of (codes "channels") rows) true) → options_of rows ≡ options
+    → IsTrue (option_map_or is_channel_list (first_of (codes "channels") rows) true) → feed_options rows ≡ options
     → IsFeedWords words f ↔ AreRead j u s options f
 from_values words rows j u s options f taken same ej eu es list eo =
     let P : List Row → Type 0 = λ r. HasFeedValues r f in (
@@ -108,7 +108,7 @@ asks : (before : List Text) (options : Options) (h : Held) (j u s : Text) (f : F
     → first_of (codes "user") (finished line.rules (held_three j u s h)) ≡ Some u
     → first_of (codes "since") (finished line.rules (held_three j u s h)) ≡ Some s
     → IsTrue (option_map_or is_channel_list (first_of (codes "channels") (finished line.rules (held_three j u s h))) true)
-    → options_of (finished line.rules (held_three j u s h)) ≡ options
+    → feed_options (finished line.rules (held_three j u s h)) ≡ options
     → IsFeedWords (codes "feed" ∷ (before ++ j ∷ u ∷ s ∷ [])) f ↔ AreRead j u s options f
 unfolding feed_app
 asks before options h j u s f walks none left ej eu es list eo =
@@ -137,7 +137,7 @@ flag_is_asked : (flag : Text) (options : Options) (j u s : Text) (f : FeedWords)
     → first_of (codes "user") (finished line.rules (held_three j u s (held_flag flag))) ≡ Some u
     → first_of (codes "since") (finished line.rules (held_three j u s (held_flag flag))) ≡ Some s
     → IsTrue (option_map_or is_channel_list (first_of (codes "channels") (finished line.rules (held_three j u s (held_flag flag)))) true)
-    → options_of (finished line.rules (held_three j u s (held_flag flag))) ≡ options
+    → feed_options (finished line.rules (held_three j u s (held_flag flag))) ≡ options
     → IsFeedWords (codes "feed" ∷ flag ∷ j ∷ u ∷ s ∷ []) f ↔ AreRead j u s options f
 unfolding walk_fault
 flag_is_asked flag options j u s f pj pu ps walks none places left ej eu es list eo =
@@ -176,7 +176,7 @@ unfolding clap_on_literals feed_app
 channels_are_asked list pl named j u s f pj pu ps =
     let three : List Text = j ∷ u ∷ s ∷ [] in
     let at_list : walked line.rules [] (waits_for (codes "channels") held_option 1) list ≡ at_place (held_list list) 1 = option_walked line.rules (codes "channels") held_option 1 list pl in
-    asks (codes "--channels" ∷ list ∷ []) (record whole_feed { filter = Some (names_in list) }) (held_list list) j u s f
+    asks (codes "--channels" ∷ list ∷ []) (record whole_feed { filter = Some (names_between_commas list) }) (held_list list) j u s f
     (ap (λ (w : Walk). fold (walked line.rules []) (walked line.rules [] w list) three) option_is_met
     ∙ ap (λ (w : Walk). fold (walked line.rules []) w three) at_list
     ∙ three_walked (held_list list) j u s pj pu ps)

@@ -3,7 +3,7 @@ use Rattle.std.specs.Prelude.{◌≡◌, ◌==◌, ◌↔◌, ◌++◌, ℕ, Boo
 use Rattle.sg_names.specs.Key.{ReadsKey}
 use Rattle.sg_names.specs.Grammar.{is_name}
 use Rattle.sg_history.specs.declared.row.Options.{Options}
-use Rattle.command_line.specs.FeedWords.{FeedWords, IsFeedWords, is_channel_list, names_in}
+use Rattle.command_line.specs.FeedWords.{FeedWords, IsFeedWords, is_channel_list, names_between_commas}
 
 -- the word does not begin with `-`
 abbrev pub is_plain_word : List ℕ → Bool
@@ -32,4 +32,4 @@ AskFor before options =
 abbrev pub ListsAskForFilters : Type 0
 ListsAskForFilters =
     (list : List ℕ) → IsTrue (is_plain_word list) → IsTrue (is_channel_list list)
-    → AskFor (codes "--channels" ∷ list ∷ []) (record whole_feed { filter = Some (names_in list) })
+    → AskFor (codes "--channels" ∷ list ∷ []) (record whole_feed { filter = Some (names_between_commas list) })

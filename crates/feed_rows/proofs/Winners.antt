@@ -9,7 +9,7 @@ use Rattle.sg_history.specs.declared.entries.Write.{Write}
 use Rattle.sg_history.specs.History.{as_write, past}
 use Rattle.sg_history.specs.Current.{Effects, Sequenced, current, current_after, current_of, effects_of, sequenced_or, last_write, winning_of}
 use Rattle.log_index.specs.declared.marks.Marked.{Marked}
-use Rattle.log_index.specs.Marks.{entries_up_to, marked_after, marked_by, marked_up_to, write_of}
+use Rattle.log_index.specs.Marks.{entries_up_to, marked_after, mark_of_write, marked_up_to, write_of}
 use Rattle.log_index.specs.Places.{document_by}
 use Rattle.log_views.specs.At.{written, write_at}
 use Rattle.log_views.proofs.Placed as placed
@@ -42,8 +42,8 @@ write_there (e ∷ older) s at = by (nat_eq s.seq (length older + 1)) refl (λ h
 
 pub marked_whole : (es : List Entry) (s : Sequenced) → placed.IsAt es s → marked_up_to es s.seq (length es) ≡ marked_after es s
 marked_whole es s at =
-    ap (λ (l : List Entry). marked_by l s.seq (write_of es s.seq)) (all_up_to es)
-    ∙ ap (marked_by es s.seq) (write_there es s at)
+    ap (λ (l : List Entry). mark_of_write l s.seq (write_of es s.seq)) (all_up_to es)
+    ∙ ap (mark_of_write es s.seq) (write_there es s at)
 
 abbrev state_at : ℕ → Option Marked → NewState
 state_at winning marked = record { winning = winning; marked = marked }

@@ -10,7 +10,7 @@ use Rattle.gateway_server.specs.declared.stop.DoorEnd.TheVariants as end
 use Rattle.session_server.specs.Served.{ServesIfRecorded}
 use Rattle.command_line.specs.declared.status.Status.{Status}
 use Rattle.command_line.specs.declared.status.Status.TheVariants as status
-use Rattle.command_line.specs.Loads.{AreAccepted, IsStopped}
+use Rattle.command_line.specs.Loads.{AreAcceptedLoads, IsStopped}
 use Rattle.replay_command.specs.Inputs.{IsBadConfig, IsBadFileAt, IsConfigIn, IsGoodFile}
 
 -- the status that serving ends with
@@ -50,7 +50,7 @@ module _ {T : Type 0} (traced : T → Option TraceRecord) where
 abbrev pub LoadsConfig : Option (List ℕ → Option (List ℕ)) → List ℕ → List Load → List Load → Status → Type 0
 LoadsConfig recorded config before after s =
     (done : List Load) × (after ≡ before ++ done)
-    × ((AreAccepted recorded IsGoodFile IsBadFileAt 1 (config ∷ []) done × EndsServing s) ⊎ IsStopped recorded IsGoodFile IsBadFileAt 1 (config ∷ []) done s)
+    × ((AreAcceptedLoads recorded IsGoodFile IsBadFileAt 1 (config ∷ []) done × EndsServing s) ⊎ IsStopped recorded IsGoodFile IsBadFileAt 1 (config ∷ []) done s)
 
 -- a fault that is answered was counted, of files, a sink and a door
 abbrev pub CountedAll : Status → ℕ → ℕ → ℕ → ℕ → ℕ → ℕ → Type 0

@@ -7,10 +7,10 @@ use Rattle.gateway_config.specs.declared.config.Config.{Config}
 use Rattle.gateway_config.specs.declared.fault.ConfigFault.{ConfigFault}
 use Rattle.gateway_config.specs.declared.fault.ConfigFault.TheVariants.{Bad, Memory}
 use Rattle.gateway_config.specs.Faults.{Fault, IsResultOf, NamesFault, config_fault, members_fault, object_fault, tree_fault}
-use Rattle.gateway_config.specs.Members.{json_of}
+use Rattle.gateway_config.specs.Members.{config_json}
 use Rattle.gateway_config.specs.Values.{IsTextOf, SaysIn}
 
-pub config_read : (bytes : List ℕ) (d : Data) (r : Result Config ConfigFault) → json_of bytes ≡ Some d
+pub config_read : (bytes : List ℕ) (d : Data) (r : Result Config ConfigFault) → config_json bytes ≡ Some d
     → IsResultOf (object_fault [] why.NotObject (members_fault []) d) (λ config. SaysIn d config) r → IsResultOf (config_fault bytes) (λ config. IsTextOf bytes config) r
 config_read bytes d (Ok c) is h =
     (ap (λ (o : Option Data). tree_fault o) is ∙ h.0, record { members = h.1.members; read = is ∙ ap Some h.1.is_object; says = h.1.says })

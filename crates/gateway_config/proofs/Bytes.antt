@@ -8,16 +8,16 @@ use Rattle.serde_json.specs.Read.{read}
 use Rattle.sg_history.specs.declared.config_fault.ConfigWhy.TheVariants as why
 use Rattle.gateway_config.specs.declared.fault.ConfigFault.{ConfigFault}
 use Rattle.gateway_config.specs.Faults.{Fault, NamesFault, config_fault, tree_fault}
-use Rattle.gateway_config.specs.Members.{json_of}
+use Rattle.gateway_config.specs.Members.{config_json}
 
-pub json-read : (bytes : List ℕ) (d : Data) → IsUtf8 bytes → read bytes ≡ Some d → json_of bytes ≡ Some d
+pub json-read : (bytes : List ℕ) (d : Data) → IsUtf8 bytes → read bytes ≡ Some d → config_json bytes ≡ Some d
 json-read bytes d h e = rw (is_utf8-from_IsUtf8 bytes h) e
 
-json-where : (bytes : List ℕ) (r : Bool) → is_utf8 bytes ≡ r → (IsUtf8 bytes → read bytes ≡ None) → json_of bytes ≡ None
+json-where : (bytes : List ℕ) (r : Bool) → is_utf8 bytes ≡ r → (IsUtf8 bytes → read bytes ≡ None) → config_json bytes ≡ None
 json-where bytes true e h = rw e (h (IsUtf8-from_is_utf8 bytes e))
 json-where bytes false e h = rw e refl
 
-json-unread : (bytes : List ℕ) → (IsUtf8 bytes → read bytes ≡ None) → json_of bytes ≡ None
+json-unread : (bytes : List ℕ) → (IsUtf8 bytes → read bytes ≡ None) → config_json bytes ≡ None
 json-unread bytes h = json-where bytes (is_utf8 bytes) refl h
 
 -- what is no JSON is refused as such

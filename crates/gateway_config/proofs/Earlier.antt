@@ -6,11 +6,11 @@ use Rattle.serde_json.specs.Data.{Data, null, boolean, number, string, array, ob
 use Rattle.sg_names.specs.Grammar.{is_name}
 use Rattle.gateway_config.specs.Faults.{name_why, needed_why, optional_why, session_why, twice_why}
 use Rattle.gateway_config.specs.Grammar.{is_session}
-use Rattle.gateway_config.specs.Members.{read_or, text_in}
+use Rattle.gateway_config.specs.Members.{read_or, member_text}
 use Rattle.gateway_config.specs.inner.Objects.{role_fault, user_fault}
 
 name_same : (f g : List ℕ → Bool) (d : Option Data) → ((t : List ℕ) → f t ≡ g t) → name_why f d ≡ name_why g d
-name_same f g d h = ap (λ b. option_or (needed_why (text_in (λ t. is_name t)) d) (twice_why b)) (h (read_or (text_in (λ t. is_name t)) [] d))
+name_same f g d h = ap (λ b. option_or (needed_why (member_text (λ t. is_name t)) d) (twice_why b)) (h (read_or (member_text (λ t. is_name t)) [] d))
 
 maybe_same : (f g : List ℕ → Bool) (o : Option (List ℕ)) → ((t : List ℕ) → f t ≡ g t) → option_map_or f o false ≡ option_map_or g o false
 maybe_same f g None h = refl
@@ -18,7 +18,7 @@ maybe_same f g (Some t) h = h t
 
 session_same : (f g : List ℕ → Bool) (d : Option Data) → ((t : List ℕ) → f t ≡ g t) → session_why f d ≡ session_why g d
 session_same f g d h =
-    ap (λ b. option_or (optional_why (text_in (λ t. is_session t)) d) (twice_why b)) (maybe_same f g (option_and_then (text_in (λ t. is_session t)) d) h)
+    ap (λ b. option_or (optional_why (member_text (λ t. is_session t)) d) (twice_why b)) (maybe_same f g (option_and_then (member_text (λ t. is_session t)) d) h)
 
 pub role_same : (place : ℕ) (f g : List ℕ → Bool) (d : Data) → ((t : List ℕ) → f t ≡ g t) → role_fault place f d ≡ role_fault place g d
 role_same place f g null h = refl

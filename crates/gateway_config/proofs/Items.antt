@@ -12,7 +12,7 @@ use Rattle.gateway_config.specs.declared.config.ConfigRole.{ConfigRole}
 use Rattle.gateway_config.specs.declared.config.ConfigUser.{ConfigUser}
 use Rattle.gateway_config.specs.declared.fault.ConfigFault.{ConfigFault}
 use Rattle.gateway_config.specs.Faults.{Fault, NamesFault, has_session, is_role_of, is_session_of, is_user_of, roles_fault, users_fault}
-use Rattle.gateway_config.specs.Members.{put_first, text_in, texts_of}
+use Rattle.gateway_config.specs.Members.{put_first, member_text, grammar_texts}
 use Rattle.gateway_config.specs.inner.Objects.{role_fault, user_fault}
 use Rattle.gateway_config.specs.Values.{role_in, roles_of, user_in, users_of}
 use Rattle.gateway_config.proofs.Earlier.{role_same, user_same}
@@ -37,33 +37,33 @@ push_more list t None = refl
 push_more list t (Some ts) = ap Some (append_assoc list (t ∷ []) ts)
 
 pub texts_kept : (grammar : List ℕ → Bool) (vs : List Value) (i : ℕ) (v : Value) (list made : List (List ℕ)) (t : List ℕ) → i < length vs → v ≡ get_or vs i v
-    → Some t ≡ text_in grammar (view v) → made ≡ list ++ t ∷ []
-    → option_map (λ m. list ++ m) (texts_of grammar (items_view (drop i vs))) ≡ texts_of grammar (items_view vs)
-    → option_map (λ m. made ++ m) (texts_of grammar (items_view (drop (i + 1) vs))) ≡ texts_of grammar (items_view vs)
+    → Some t ≡ member_text grammar (view v) → made ≡ list ++ t ∷ []
+    → option_map (λ m. list ++ m) (grammar_texts grammar (items_view (drop i vs))) ≡ grammar_texts grammar (items_view vs)
+    → option_map (λ m. made ++ m) (grammar_texts grammar (items_view (drop (i + 1) vs))) ≡ grammar_texts grammar (items_view vs)
 texts_kept grammar vs i v list made t low is found pushed kept =
-    let rest = texts_of grammar (items_view (drop (i + 1) vs)) in
+    let rest = grammar_texts grammar (items_view (drop (i + 1) vs)) in
     ap (λ (l : List (List ℕ)). option_map (λ m. l ++ m) rest) pushed
     ∙ push_more list t rest
     ∙ ap (λ (o : Option (List ℕ)). option_map (λ m. list ++ m) (put_first o rest)) found
-    ∙ ap (λ (ds : Items). option_map (λ m. list ++ m) (texts_of grammar ds)) (sym (items_next vs i v low is))
+    ∙ ap (λ (ds : Items). option_map (λ m. list ++ m) (grammar_texts grammar ds)) (sym (items_next vs i v low is))
     ∙ kept
 
 pub texts_none : (grammar : List ℕ → Bool) (vs : List Value) (i : ℕ) (v : Value) (list : List (List ℕ)) → i < length vs → v ≡ get_or vs i v
-    → None ≡ text_in grammar (view v)
-    → option_map (λ m. list ++ m) (texts_of grammar (items_view (drop i vs))) ≡ texts_of grammar (items_view vs)
-    → None ≡ texts_of grammar (items_view vs)
+    → None ≡ member_text grammar (view v)
+    → option_map (λ m. list ++ m) (grammar_texts grammar (items_view (drop i vs))) ≡ grammar_texts grammar (items_view vs)
+    → None ≡ grammar_texts grammar (items_view vs)
 texts_none grammar vs i v list low is none kept =
-    let rest = texts_of grammar (items_view (drop (i + 1) vs)) in
+    let rest = grammar_texts grammar (items_view (drop (i + 1) vs)) in
     ap (λ (o : Option (List ℕ)). option_map (λ m. list ++ m) (put_first o rest)) none
-    ∙ ap (λ (ds : Items). option_map (λ m. list ++ m) (texts_of grammar ds)) (sym (items_next vs i v low is))
+    ∙ ap (λ (ds : Items). option_map (λ m. list ++ m) (grammar_texts grammar ds)) (sym (items_next vs i v low is))
     ∙ kept
 
 pub texts_all : (grammar : List ℕ → Bool) (vs : List Value) (i : ℕ) (list : List (List ℕ)) → length vs ≤ i
-    → option_map (λ m. list ++ m) (texts_of grammar (items_view (drop i vs))) ≡ texts_of grammar (items_view vs)
-    → Some list ≡ texts_of grammar (items_view vs)
+    → option_map (λ m. list ++ m) (grammar_texts grammar (items_view (drop i vs))) ≡ grammar_texts grammar (items_view vs)
+    → Some list ≡ grammar_texts grammar (items_view vs)
 texts_all grammar vs i list past kept =
     ap Some (sym (append-nil list))
-    ∙ ap (λ (ds : Items). option_map (λ m. list ++ m) (texts_of grammar ds)) (sym (items_end vs i past))
+    ∙ ap (λ (ds : Items). option_map (λ m. list ++ m) (grammar_texts grammar ds)) (sym (items_end vs i past))
     ∙ kept
 
 -- ---- roles

@@ -19,7 +19,7 @@ use Rattle.gateway_config.specs.declared.config.ConfigUser.{ConfigUser}
 use Rattle.gateway_config.specs.declared.fault.ConfigFault.{ConfigFault}
 use Rattle.gateway_config.specs.declared.fault.ConfigFault.TheVariants.{Bad, Memory}
 use Rattle.gateway_config.specs.Grammar.{is_database, is_session}
-use Rattle.gateway_config.specs.Members.{count_in, json_of, read_or, text_in, texts_in}
+use Rattle.gateway_config.specs.Members.{count_of_value, config_json, read_or, member_text, member_texts}
 use Rattle.gateway_config.specs.Values.{default_sync, role_in, user_in}
 
 -- a bad member: the way to it, and why it is bad
@@ -38,9 +38,9 @@ IsResultOf found says (Ok a) = (found ≡ None) × says a
 IsResultOf found says (Err e) = NamesFault found e
 
 -- of tests in their order the first that finds a fault
-abbrev pub first_of : List (Option Fault) → Option Fault
-first_of [] = None
-first_of (found ∷ others) = option_or found (first_of others)
+abbrev pub first_fault : List (Option Fault) → Option Fault
+first_fault [] = None
+first_fault (found ∷ others) = option_or found (first_fault others)
 
 -- a value that is read as nothing is of another kind, or outside its grammar
 abbrev pub value_why : {A : Type 0} → Option A → Option ConfigWhy
@@ -79,12 +79,12 @@ unknown path known (member name d ms) = if among known name then unknown path kn
 
 -- what is wrong with a name, by which names are taken
 abbrev pub name_why : (List ℕ → Bool) → Option Data → Option ConfigWhy
-name_why taken d = option_or (needed_why (text_in is_name) d) (twice_why (taken (read_or (text_in is_name) [] d)))
+name_why taken d = option_or (needed_why (member_text is_name) d) (twice_why (taken (read_or (member_text is_name) [] d)))
 
 -- what is wrong with a session, by which sessions are taken
 abbrev pub session_why : (List ℕ → Bool) → Option Data → Option ConfigWhy
 session_why taken d =
-    option_or (optional_why (text_in is_session) d) (twice_why (option_map_or taken (option_and_then (text_in is_session) d) false))
+    option_or (optional_why (member_text is_session) d) (twice_why (option_map_or taken (option_and_then (member_text is_session) d) false))
 
 abbrev pub role_members : List (List ℕ)
 role_members = codes "name" ∷ codes "channels" ∷ []
@@ -96,17 +96,17 @@ abbrev pub name_fault : List ℕ → (List ℕ → Bool) → Members → Option 
 name_fault path taken ms = at_member path (codes "name") (name_why taken (get_member (codes "name") ms))
 
 abbrev pub channels_fault : List ℕ → Members → Option Fault
-channels_fault path ms = at_member path (codes "channels") (optional_why (texts_in is_channel_name) (get_member (codes "channels") ms))
+channels_fault path ms = at_member path (codes "channels") (optional_why (member_texts is_channel_name) (get_member (codes "channels") ms))
 
 abbrev pub names_fault : List ℕ → Members → Option Fault
-names_fault path ms = at_member path (codes "roles") (optional_why (texts_in is_name) (get_member (codes "roles") ms))
+names_fault path ms = at_member path (codes "roles") (optional_why (member_texts is_name) (get_member (codes "roles") ms))
 
 abbrev pub session_fault : List ℕ → (List ℕ → Bool) → Members → Option Fault
 session_fault path taken ms = at_member path (codes "session") (session_why taken (get_member (codes "session") ms))
 
 -- what is wrong with the members of a role
 abbrev pub role_object_fault : List ℕ → (List ℕ → Bool) → Members → Option Fault
-role_object_fault path taken ms = first_of (
+role_object_fault path taken ms = first_fault (
     name_fault path taken ms
     ∷ channels_fault path ms
     ∷ unknown path role_members ms
@@ -114,7 +114,7 @@ role_object_fault path taken ms = first_of (
 
 -- what is wrong with the members of a user
 abbrev pub user_object_fault : List ℕ → (List ℕ → Bool) → (List ℕ → Bool) → Members → Option Fault
-user_object_fault path taken session_taken ms = first_of (
+user_object_fault path taken session_taken ms = first_fault (
     name_fault path taken ms
     ∷ channels_fault path ms
     ∷ names_fault path ms
@@ -198,28 +198,28 @@ config_members =
     codes "database" ∷ codes "bind" ∷ codes "accepts" ∷ codes "conflicts" ∷ codes "sync" ∷ codes "roles" ∷ codes "users" ∷ []
 
 abbrev pub database_fault : List ℕ → Members → Option Fault
-database_fault path ms = at_member path (codes "database") (needed_why (text_in is_database) (get_member (codes "database") ms))
+database_fault path ms = at_member path (codes "database") (needed_why (member_text is_database) (get_member (codes "database") ms))
 
 abbrev pub bind_fault : List ℕ → Members → Option Fault
 bind_fault path ms = at_member path (codes "bind") (optional_why as_str (get_member (codes "bind") ms))
 
 abbrev pub accepts_fault : List ℕ → Members → Option Fault
-accepts_fault path ms = at_member path (codes "accepts") (optional_why count_in (get_member (codes "accepts") ms))
+accepts_fault path ms = at_member path (codes "accepts") (optional_why count_of_value (get_member (codes "accepts") ms))
 
 abbrev pub conflicts_fault : List ℕ → Members → Option Fault
 conflicts_fault path ms = at_member path (codes "conflicts") (optional_why as_bool (get_member (codes "conflicts") ms))
 
-abbrev pub sync_fault : List ℕ → Members → Option Fault
-sync_fault path ms = at_member path (codes "sync") (sync_why (get_member (codes "sync") ms))
+abbrev pub function_fault : List ℕ → Members → Option Fault
+function_fault path ms = at_member path (codes "sync") (sync_why (get_member (codes "sync") ms))
 
 -- the first fault of the members of the whole, whose path is empty
 abbrev pub members_fault : List ℕ → Members → Option Fault
-members_fault path ms = first_of (
+members_fault path ms = first_fault (
     database_fault path ms
     ∷ bind_fault path ms
     ∷ accepts_fault path ms
     ∷ conflicts_fault path ms
-    ∷ sync_fault path ms
+    ∷ function_fault path ms
     ∷ list_fault path (codes "roles") (roles_fault []) (get_member (codes "roles") ms)
     ∷ list_fault path (codes "users") (users_fault []) (get_member (codes "users") ms)
     ∷ unknown path config_members ms
@@ -232,4 +232,4 @@ tree_fault (Some d) = object_fault [] why.NotObject (members_fault []) d
 
 -- the first fault of a configuration; none where it is accepted
 abbrev pub config_fault : List ℕ → Option Fault
-config_fault bytes = tree_fault (json_of bytes)
+config_fault bytes = tree_fault (config_json bytes)

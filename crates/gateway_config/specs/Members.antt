@@ -7,8 +7,8 @@ use Rattle.serde_json.specs.Read.{read}
 use Rattle.gateway_config.specs.Grammar.{is_count}
 
 -- what the bytes are read as, which are JSON in UTF-8; of two members of one name the last stays
-abbrev pub json_of : List ℕ → Option Data
-json_of bytes = if is_utf8 bytes then read bytes else None
+abbrev pub config_json : List ℕ → Option Data
+config_json bytes = if is_utf8 bytes then read bytes else None
 
 -- the members of an object; other values have none
 abbrev pub members_in : Data → Members
@@ -20,25 +20,25 @@ passing test None = None
 passing test (Some a) = if test a then Some a else None
 
 -- the text that a value is, where it is one in this grammar
-abbrev pub text_in : (List ℕ → Bool) → Data → Option (List ℕ)
-text_in grammar d = passing grammar (as_str d)
+abbrev pub member_text : (List ℕ → Bool) → Data → Option (List ℕ)
+member_text grammar d = passing grammar (as_str d)
 
 -- the count that a value is, where it is one: a number that is written without a fraction or an exponent
-abbrev pub count_in : Data → Option ℕ
-count_in d = passing is_count (option_and_then as_u64 (as_number d))
+abbrev pub count_of_value : Data → Option ℕ
+count_of_value d = passing is_count (option_and_then as_u64 (as_number d))
 
 -- a text before others
 abbrev pub put_first : Option (List ℕ) → Option (List (List ℕ)) → Option (List (List ℕ))
 put_first text texts = option_and_then (λ t. option_map (λ ts. t ∷ ts) texts) text
 
 -- the texts that the items of a list are, where each is one in this grammar
-abbrev pub texts_of : (List ℕ → Bool) → Items → Option (List (List ℕ))
-texts_of grammar no_items = Some []
-texts_of grammar (item d ds) = put_first (text_in grammar d) (texts_of grammar ds)
+abbrev pub grammar_texts : (List ℕ → Bool) → Items → Option (List (List ℕ))
+grammar_texts grammar no_items = Some []
+grammar_texts grammar (item d ds) = put_first (member_text grammar d) (grammar_texts grammar ds)
 
 -- the texts of a list, in its order, where it is one of texts in this grammar
-abbrev pub texts_in : (List ℕ → Bool) → Data → Option (List (List ℕ))
-texts_in grammar d = option_and_then (λ ds. texts_of grammar ds) (as_array d)
+abbrev pub member_texts : (List ℕ → Bool) → Data → Option (List (List ℕ))
+member_texts grammar d = option_and_then (λ ds. grammar_texts grammar ds) (as_array d)
 
 -- what the value of a member is read as, or another value where there is none
 abbrev pub read_or : {A : Type 0} → (Data → Option A) → A → Option Data → A

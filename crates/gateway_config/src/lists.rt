@@ -3,7 +3,7 @@
 ghost use Rattle.std.specs.Prelude.{◌≡◌, Some, IfOk};
 ghost use Rattle.serde_json.specs.View.{view, items_view};
 ghost use Rattle.sg_names.specs.Grammar.{is_channel_name, is_name};
-ghost use Rattle.gateway_config.specs.Members.{text_in, texts_in, texts_of};
+ghost use Rattle.gateway_config.specs.Members.{member_text, member_texts, grammar_texts};
 
 use serde_json::Value;
 use sg_history::{ChannelName, Channels, Name, Names, TextFault};
@@ -11,7 +11,7 @@ use sg_outside::Memory;
 use std::alloc::{AllocError, Global};
 
 fn channel(alloc: Global, value: &Value) -> Result<Option<ChannelName>, Memory>
-    ensures { IfOk result (λ found. found ≡ text_in (λ t. is_channel_name t) (view value.now)) }
+    ensures { IfOk result (λ found. found ≡ member_text (λ t. is_channel_name t) (view value.now)) }
 {
     let Some(text) = value.as_str() else {
         return Ok(None);
@@ -24,7 +24,7 @@ fn channel(alloc: Global, value: &Value) -> Result<Option<ChannelName>, Memory>
 }
 
 fn name(alloc: Global, value: &Value) -> Result<Option<Name>, Memory>
-    ensures { IfOk result (λ found. found ≡ text_in (λ t. is_name t) (view value.now)) }
+    ensures { IfOk result (λ found. found ≡ member_text (λ t. is_name t) (view value.now)) }
 {
     let Some(text) = value.as_str() else {
         return Ok(None);
@@ -38,7 +38,7 @@ fn name(alloc: Global, value: &Value) -> Result<Option<Name>, Memory>
 
 fn channels(alloc: Global, items: &[Value]) -> Result<Option<Channels>, Memory>
     ensures { IfOk result (λ found. found
-        ≡ texts_of (λ t. is_channel_name t) (items_view items.now)) }
+        ≡ grammar_texts (λ t. is_channel_name t) (items_view items.now)) }
 {
     let mut list = Channels::new(alloc);
     for item in items {
@@ -51,7 +51,7 @@ fn channels(alloc: Global, items: &[Value]) -> Result<Option<Channels>, Memory>
 }
 
 fn names(alloc: Global, items: &[Value]) -> Result<Option<Names>, Memory>
-    ensures { IfOk result (λ found. found ≡ texts_of (λ t. is_name t) (items_view items.now)) }
+    ensures { IfOk result (λ found. found ≡ grammar_texts (λ t. is_name t) (items_view items.now)) }
 {
     let mut list = Names::new(alloc);
     for item in items {
@@ -65,7 +65,7 @@ fn names(alloc: Global, items: &[Value]) -> Result<Option<Names>, Memory>
 
 /// The channels that a value lists; none where it is no list of channels' names.
 pub(crate) fn channels_in(alloc: Global, value: &Value) -> Result<Option<Channels>, Memory>
-    ensures { IfOk result (λ found. found ≡ texts_in (λ t. is_channel_name t) (view value.now)) }
+    ensures { IfOk result (λ found. found ≡ member_texts (λ t. is_channel_name t) (view value.now)) }
 {
     match value.as_array() {
         Some(items) => channels(alloc, items.as_slice()),
@@ -75,7 +75,7 @@ pub(crate) fn channels_in(alloc: Global, value: &Value) -> Result<Option<Channel
 
 /// The names that a value lists; none where it is no list of names.
 pub(crate) fn names_in(alloc: Global, value: &Value) -> Result<Option<Names>, Memory>
-    ensures { IfOk result (λ found. found ≡ texts_in (λ t. is_name t) (view value.now)) }
+    ensures { IfOk result (λ found. found ≡ member_texts (λ t. is_name t) (view value.now)) }
 {
     match value.as_array() {
         Some(items) => names(alloc, items.as_slice()),

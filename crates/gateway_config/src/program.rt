@@ -5,7 +5,7 @@ ghost use Rattle.std.specs.Arc.{arc_value};
 ghost use Rattle.serde_json.specs.Find.{as_str, get_member};
 ghost use Rattle.sync_syntax.specs.Statements as syntax;
 ghost use Rattle.sync_resolve.specs.Resolving.{faults};
-ghost use Rattle.gateway_config.specs.Faults.{IsResultOf, at_member, is_sound, no_faults, optional_why, sync_fault};
+ghost use Rattle.gateway_config.specs.Faults.{IsResultOf, at_member, is_sound, no_faults, optional_why, function_fault};
 ghost use Rattle.gateway_config.specs.inner.Objects.{members_of};
 ghost use Rattle.gateway_config.specs.inner.Programs.{IsFoundIn};
 ghost use Rattle.gateway_config.specs.Values.{sync_of};
@@ -75,7 +75,7 @@ pub(crate) fn read_program(
     alloc: Global,
     object: &Object<'_, '_>,
 ) -> Result<Arc<Resolved>, ConfigFault>
-    ensures { IsResultOf (sync_fault object.now.path.now (members_of object.now))
+    ensures { IsResultOf (function_fault object.now.path.now (members_of object.now))
         (λ program. syntax.parsed (sync_of (members_of object.now)) ≡ Ok (arc_value program))
         result }
 {

@@ -4,10 +4,10 @@ ghost use Rattle.std.specs.Prelude.{◌≡◌, ◌≢◌, ◌↔◌, [], codes, 
 ghost use Rattle.std.specs.Arc.{arc_value};
 ghost use Rattle.serde_json.specs.View.{view};
 ghost use Rattle.sync_syntax.specs.Statements.{parsed};
-ghost use Rattle.gateway_config.specs.Faults.{Fault, IsResultOf, NamesFault, config_fault, first_of, members_fault, object_fault};
-ghost use Rattle.gateway_config.specs.Members.{json_of};
+ghost use Rattle.gateway_config.specs.Faults.{Fault, IsResultOf, NamesFault, config_fault, first_fault, members_fault, object_fault};
+ghost use Rattle.gateway_config.specs.Members.{config_json};
 ghost use Rattle.gateway_config.specs.inner.Objects.{HasSettings, first_tests, known_tests, members_of, principal_tests};
-ghost use Rattle.gateway_config.specs.Values.{IsTextOf, Says, SaysIn, items_at, roles_of, sync_of, users_of};
+ghost use Rattle.gateway_config.specs.Values.{IsTextOf, Says, SaysIn, member_items, roles_of, sync_of, users_of};
 
 use crate::config::{Config, ConfigRoles, ConfigUsers};
 use crate::fault::ConfigFault;
@@ -27,7 +27,7 @@ fn read_first(
     alloc: Global,
     object: &Object<'_, '_>,
 ) -> Result<(Settings, Arc<Resolved>), ConfigFault>
-    ensures { IsResultOf (first_of (first_tests object.now.path.now (members_of object.now)))
+    ensures { IsResultOf (first_fault (first_tests object.now.path.now (members_of object.now)))
         (λ p. HasSettings (members_of object.now) p.0
         × (parsed (sync_of (members_of object.now)) ≡ Ok (arc_value p.1))) result }
 {
@@ -46,9 +46,9 @@ fn read_principals(
     alloc: Global,
     object: &Object<'_, '_>,
 ) -> Result<(ConfigRoles, ConfigUsers), ConfigFault>
-    ensures { IsResultOf (first_of (principal_tests object.now.path.now (members_of object.now)))
-        (λ p. (p.0 ≡ roles_of (items_at (codes "roles") (members_of object.now)))
-        × (p.1 ≡ users_of (items_at (codes "users") (members_of object.now)))) result }
+    ensures { IsResultOf (first_fault (principal_tests object.now.path.now (members_of object.now)))
+        (λ p. (p.0 ≡ roles_of (member_items (codes "roles") (members_of object.now)))
+        × (p.1 ≡ users_of (member_items (codes "users") (members_of object.now)))) result }
 {
     let roles = read_roles(alloc, object)?;
     let users = read_users(alloc, object)?;
@@ -56,7 +56,7 @@ fn read_principals(
 }
 
 fn read_known(alloc: Global, object: &Object<'_, '_>) -> Result<Config, ConfigFault>
-    ensures { IsResultOf (first_of (known_tests object.now.path.now (members_of object.now)))
+    ensures { IsResultOf (first_fault (known_tests object.now.path.now (members_of object.now)))
         (λ config. Says (members_of object.now) config) result }
 {
     let first = read_first(alloc, object)?;
@@ -106,7 +106,7 @@ fn read_object(alloc: Global, object: &Object<'_, '_>) -> Result<Config, ConfigF
 
 /// What the bytes are read as.
 fn value_of(alloc: Global, bytes: &[u8]) -> Result<Value, ConfigFault>
-    ensures ok { IfOk result (λ value. json_of bytes.now ≡ Some (view value)) }
+    ensures ok { IfOk result (λ value. config_json bytes.now ≡ Some (view value)) }
     ensures fault { IfErr result (λ e. NamesFault (config_fault bytes.now) e) }
 {
     match Value::from_slice(alloc, bytes) {

@@ -5,11 +5,11 @@ ghost use Rattle.std.specs.Str.{bytes_eq};
 ghost use Rattle.serde_json.specs.Find.{get_member};
 ghost use Rattle.serde_json.specs.View.{view, items_view};
 ghost use Rattle.sg_names.specs.Grammar.{is_name};
-ghost use Rattle.gateway_config.specs.Faults.{IsResultOf, at_member, channels_fault, first_of, name_fault, needed_why, role_object_fault, roles_fault};
-ghost use Rattle.gateway_config.specs.Members.{text_in};
+ghost use Rattle.gateway_config.specs.Faults.{IsResultOf, at_member, channels_fault, first_fault, name_fault, needed_why, role_object_fault, roles_fault};
+ghost use Rattle.gateway_config.specs.Members.{member_text};
 ghost use Rattle.gateway_config.specs.inner.Objects.{holder_tests, members_of, role_fault, roles_test};
 ghost use Rattle.gateway_config.specs.inner.Seen.{has};
-ghost use Rattle.gateway_config.specs.Values.{channels_of, items_at, name_of, role_in, role_of, roles_of};
+ghost use Rattle.gateway_config.specs.Values.{member_channels, member_items, name_of, role_in, role_of, roles_of};
 
 use crate::config::{ConfigRole, ConfigRoles};
 use crate::fault::ConfigFault;
@@ -25,7 +25,7 @@ use std::collections::BTreeMap;
 /// The text of an object's name.
 fn name_text<'a>(alloc: Global, object: &Object<'_, 'a>) -> Result<&'a str, ConfigFault>
     ensures { IsResultOf (at_member object.now.path.now (codes "name") (needed_why
-        (text_in (λ t. is_name t)) (get_member (codes "name") (members_of object.now))))
+        (member_text (λ t. is_name t)) (get_member (codes "name") (members_of object.now))))
         (λ t. t.now ≡ name_of (members_of object.now)) result }
 {
     let Some(value) = object.get("name") else {
@@ -62,7 +62,7 @@ fn read_name<'a>(
 
 fn read_channels(alloc: Global, object: &Object<'_, '_>) -> Result<Channels, ConfigFault>
     ensures { IsResultOf (channels_fault object.now.path.now (members_of object.now))
-        (λ channels. channels ≡ channels_of (members_of object.now)) result }
+        (λ channels. channels ≡ member_channels (members_of object.now)) result }
 {
     let Some(value) = object.get("channels") else {
         return Ok(Channels::new(alloc));
@@ -79,7 +79,7 @@ pub(crate) fn read_holder<'a>(
     object: &Object<'_, 'a>,
     seen: &mut Seen<'a>,
 ) -> Result<ConfigRole, ConfigFault>
-    ensures read { IsResultOf (first_of (holder_tests object.now.path.now (has seen.old)
+    ensures read { IsResultOf (first_fault (holder_tests object.now.path.now (has seen.old)
         (members_of object.now))) (λ role. role ≡ role_of (members_of object.now)) result }
     ensures seen { OnOk result ((t : List ℕ)
         → has seen.new t
@@ -148,7 +148,7 @@ fn read_items(alloc: Global, items: &[Value]) -> Result<ConfigRoles, ConfigFault
 /// Reads the roles of a configuration.
 pub(crate) fn read_roles(alloc: Global, object: &Object<'_, '_>) -> Result<ConfigRoles, ConfigFault>
     ensures { IsResultOf (roles_test object.now.path.now (members_of object.now))
-        (λ roles. roles ≡ roles_of (items_at (codes "roles") (members_of object.now))) result }
+        (λ roles. roles ≡ roles_of (member_items (codes "roles") (members_of object.now))) result }
 {
     let Some(value) = object.get("roles") else {
         return Ok(ConfigRoles::new(alloc));

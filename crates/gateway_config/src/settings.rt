@@ -2,7 +2,7 @@
 
 ghost use Rattle.std.specs.Prelude.{◌≡◌, []};
 ghost use Rattle.serde_json.specs.View.{view};
-ghost use Rattle.gateway_config.specs.Faults.{IsResultOf, accepts_fault, bind_fault, conflicts_fault, database_fault, first_of};
+ghost use Rattle.gateway_config.specs.Faults.{IsResultOf, accepts_fault, bind_fault, conflicts_fault, database_fault, first_fault};
 ghost use Rattle.gateway_config.specs.Members as members;
 ghost use Rattle.gateway_config.specs.inner.Objects.{HasSettings, limit_tests, members_of, setting_tests, text_tests};
 ghost use Rattle.gateway_config.specs.Values.{accepts_of, bind_of, conflicts_of, database_of};
@@ -58,7 +58,7 @@ fn read_bind(alloc: Global, object: &Object<'_, '_>) -> Result<DocText, ConfigFa
 
 /// The count that a value is.
 fn count_in(value: &Value) -> Option<u64>
-    ensures { result ≡ members.count_in (view value.now) }
+    ensures { result ≡ members.count_of_value (view value.now) }
 {
     let count = value.as_u64()?;
     if 1 <= count && count <= MOST_ACCEPTS {
@@ -95,7 +95,7 @@ fn read_conflicts(alloc: Global, object: &Object<'_, '_>) -> Result<bool, Config
 }
 
 fn read_texts(alloc: Global, object: &Object<'_, '_>) -> Result<(DocText, DocText), ConfigFault>
-    ensures { IsResultOf (first_of (text_tests object.now.path.now (members_of object.now)))
+    ensures { IsResultOf (first_fault (text_tests object.now.path.now (members_of object.now)))
         (λ p. (p.0 ≡ database_of (members_of object.now))
         × (p.1 ≡ bind_of (members_of object.now))) result }
 {
@@ -105,7 +105,7 @@ fn read_texts(alloc: Global, object: &Object<'_, '_>) -> Result<(DocText, DocTex
 }
 
 fn read_limits(alloc: Global, object: &Object<'_, '_>) -> Result<(u64, bool), ConfigFault>
-    ensures { IsResultOf (first_of (limit_tests object.now.path.now (members_of object.now)))
+    ensures { IsResultOf (first_fault (limit_tests object.now.path.now (members_of object.now)))
         (λ p. (p.0 ≡ accepts_of (members_of object.now))
         × (p.1 ≡ conflicts_of (members_of object.now))) result }
 {
@@ -116,7 +116,7 @@ fn read_limits(alloc: Global, object: &Object<'_, '_>) -> Result<(u64, bool), Co
 
 /// Reads the members from `database` to `conflicts`.
 pub(crate) fn read_settings(alloc: Global, object: &Object<'_, '_>) -> Result<Settings, ConfigFault>
-    ensures { IsResultOf (first_of (setting_tests object.now.path.now (members_of object.now)))
+    ensures { IsResultOf (first_fault (setting_tests object.now.path.now (members_of object.now)))
         (λ settings. HasSettings (members_of object.now) settings) result }
 {
     let (database, bind) = read_texts(alloc, object)?;

@@ -6,7 +6,7 @@ ghost use Rattle.serde_json.specs.View.{view};
 ghost use Rattle.sg_names.specs.Grammar.{is_name};
 ghost use Rattle.sg_names.specs.Decimal as decimal;
 ghost use Rattle.gateway_config.specs.Grammar as grammar;
-ghost use Rattle.gateway_config.specs.Members.{text_in};
+ghost use Rattle.gateway_config.specs.Members.{member_text};
 
 use serde_json::Value;
 
@@ -79,7 +79,7 @@ fn is_session(text: &str) -> bool
 /// The database's name that a value is.
 pub(crate) fn database_in(value: &Value) -> Option<&str>
     ensures { option_map (λ t. t.now) result
-        ≡ text_in (λ t. grammar.is_database t) (view value.now) }
+        ≡ member_text (λ t. grammar.is_database t) (view value.now) }
 {
     let text = value.as_str()?;
     if is_database(text) { Some(text) } else { None }
@@ -88,7 +88,7 @@ pub(crate) fn database_in(value: &Value) -> Option<&str>
 /// The session that a value is.
 pub(crate) fn session_in(value: &Value) -> Option<&str>
     ensures { option_map (λ t. t.now) result
-        ≡ text_in (λ t. grammar.is_session t) (view value.now) }
+        ≡ member_text (λ t. grammar.is_session t) (view value.now) }
 {
     let text = value.as_str()?;
     if is_session(text) { Some(text) } else { None }
@@ -96,7 +96,7 @@ pub(crate) fn session_in(value: &Value) -> Option<&str>
 
 /// The name of a user or a role that a value is.
 pub(crate) fn name_in(value: &Value) -> Option<&str>
-    ensures { option_map (λ t. t.now) result ≡ text_in (λ t. is_name t) (view value.now) }
+    ensures { option_map (λ t. t.now) result ≡ member_text (λ t. is_name t) (view value.now) }
 {
     let text = value.as_str()?;
     if sg_names::grammar::is_name(text.as_bytes()) {

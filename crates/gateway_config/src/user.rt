@@ -3,12 +3,12 @@
 ghost use Rattle.std.specs.Prelude.{◌≡◌, ◌||◌, ℕ, List, [], codes, Some, IfOk, OnOk};
 ghost use Rattle.std.specs.Str.{bytes_eq};
 ghost use Rattle.serde_json.specs.View.{view, items_view};
-ghost use Rattle.gateway_config.specs.Faults.{IsResultOf, at_member, first_of, has_session, is_session_text, names_fault, session_fault, session_why, user_object_fault, users_fault};
+ghost use Rattle.gateway_config.specs.Faults.{IsResultOf, at_member, first_fault, has_session, is_session_text, names_fault, session_fault, session_why, user_object_fault, users_fault};
 ghost use Rattle.gateway_config.specs.Grammar.{is_session};
-ghost use Rattle.gateway_config.specs.Members.{text_in};
+ghost use Rattle.gateway_config.specs.Members.{member_text};
 ghost use Rattle.gateway_config.specs.inner.Objects.{further_tests, members_of, user_fault, user_tests, users_test};
 ghost use Rattle.gateway_config.specs.inner.Seen.{has};
-ghost use Rattle.gateway_config.specs.Values.{items_at, name_of, names_of, session_of, user_in, user_of, users_of};
+ghost use Rattle.gateway_config.specs.Values.{member_items, name_of, names_of, session_of, user_in, user_of, users_of};
 
 use crate::config::{ConfigRole, ConfigUser, ConfigUsers};
 use crate::fault::ConfigFault;
@@ -45,7 +45,7 @@ fn read_own_session<'a>(
 ) -> Result<DocText, ConfigFault>
     ensures read { IsResultOf (at_member object.now.path.now (codes "session")
         (session_why (has seen.old) (Some (view value.now))))
-        (λ session. Some session ≡ text_in (λ t. is_session t) (view value.now)) result }
+        (λ session. Some session ≡ member_text (λ t. is_session t) (view value.now)) result }
     ensures seen { IfOk result (λ session. (t : List ℕ)
         → has seen.new t ≡ (bytes_eq session t || has seen.old t)) }
 {
@@ -83,7 +83,7 @@ fn read_further<'a>(
     seen: &mut Seen<'a>,
 ) -> Result<(Names, Option<DocText>), ConfigFault>
     ensures read { IsResultOf
-        (first_of (further_tests object.now.path.now (has seen.old) (members_of object.now)))
+        (first_fault (further_tests object.now.path.now (has seen.old) (members_of object.now)))
         (λ p. (p.0 ≡ names_of (members_of object.now))
         × (p.1 ≡ session_of (members_of object.now))) result }
     ensures seen { OnOk result ((t : List ℕ)
@@ -101,7 +101,7 @@ fn read_members<'a>(
     names: &mut Seen<'a>,
     sessions: &mut Seen<'a>,
 ) -> Result<ConfigUser, ConfigFault>
-    ensures read { IsResultOf (first_of (user_tests object.now.path.now
+    ensures read { IsResultOf (first_fault (user_tests object.now.path.now
         (has names.old) (has sessions.old) (members_of object.now)))
         (λ user. user ≡ user_of (members_of object.now)) result }
     ensures names { OnOk result ((t : List ℕ)
@@ -197,7 +197,7 @@ fn read_items(alloc: Global, items: &[Value]) -> Result<ConfigUsers, ConfigFault
 /// Reads the users of a configuration.
 pub(crate) fn read_users(alloc: Global, object: &Object<'_, '_>) -> Result<ConfigUsers, ConfigFault>
     ensures { IsResultOf (users_test object.now.path.now (members_of object.now))
-        (λ users. users ≡ users_of (items_at (codes "users") (members_of object.now))) result }
+        (λ users. users ≡ users_of (member_items (codes "users") (members_of object.now))) result }
 {
     let Some(value) = object.get("users") else {
         return Ok(ConfigUsers::new(alloc));

@@ -10,7 +10,7 @@ use Rattle.sg_history.specs.History.{as_sync, as_write}
 use Rattle.sg_history.specs.Current.{Effects, Sequenced, current, current_after, effects_of, effects_or, recorded_effects, winning_of}
 use Rattle.log_index.specs.declared.documents.Document.{Document}
 use Rattle.log_index.specs.declared.marks.Marked.{Marked}
-use Rattle.log_index.specs.Marks.{effects_by, entries_up_to, mark_at, mark_in_place, marked_after, marked_by, marked_up_to, write_of}
+use Rattle.log_index.specs.Marks.{effects_by, entries_up_to, mark_at, mark_in_place, marked_after, mark_of_write, marked_up_to, write_of}
 use Rattle.log_index.specs.Places.{document_at, document_before}
 use Rattle.log_views.specs.At.{written, write_at}
 use Rattle.log_views.specs.States.{since_by}
@@ -72,8 +72,8 @@ module _ (es : List Entry) (doc : List ℕ) (d : Document) (at : document_at es 
   marked_is =
       let f = found es doc d at in
       ap (λ (n : ℕ). marked_up_to es n (length es)) f.winning
-      ∙ ap (λ (l : List Entry). marked_by l (winning_of es doc f.last).seq (write_of es (winning_of es doc f.last).seq)) (up_to_end es)
-      ∙ ap (λ (o : Option Write). marked_by es (winning_of es doc f.last).seq o) (write_of_is es (winning_of es doc f.last).seq f.at.low f.at.high ∙ f.at.there)
+      ∙ ap (λ (l : List Entry). mark_of_write l (winning_of es doc f.last).seq (write_of es (winning_of es doc f.last).seq)) (up_to_end es)
+      ∙ ap (λ (o : Option Write). mark_of_write es (winning_of es doc f.last).seq o) (write_of_is es (winning_of es doc f.last).seq f.at.low f.at.high ∙ f.at.there)
 
   facts_are : document_facts (current es doc) ≡ effect_facts (effects_of es (winning_of es doc (found es doc d at).last))
   facts_are = ap (λ (o : Option Sequenced). document_facts (current_after es doc o)) (found es doc d at).last_is

@@ -14,7 +14,7 @@ use Rattle.sg_history.specs.History.{SyncEntry, as_sync}
 use Rattle.sg_history.specs.Current.{Sequenced, marks_rev}
 use Rattle.log_index.specs.declared.marks.Marked.{Marked}
 use Rattle.log_index.specs.declared.tables.Tables.{Tables}
-use Rattle.log_index.specs.Marks.{mark_place, place_in, place_by, marked_or, marked_after, entries_up_to, write_of, marked_by, marked_up_to}
+use Rattle.log_index.specs.Marks.{mark_place, place_in, place_by, marked_or, marked_after, entries_up_to, write_of, mark_of_write, marked_up_to}
 use Rattle.log_index.specs.Representation.{HasPlaces, IsLast, first_in, first_rev, firsts_of, is_seq, kept_place, marks_in, place_at, seq_place}
 use Rattle.log_index.proofs.FirstRevisions.{Writes, first_writes, first_stays, has_first, is_same, same_is, not_there, at_older, one_revision}
 
@@ -263,7 +263,7 @@ pub last_kept : (tables : Tables) (es : List Entry) (seq up_to : ℕ) (r : Optio
     → IsLast (place_at tables.marks (first_in tables.repeats seq)) seq up_to r → r ≡ marked_up_to es seq up_to
 last_kept tables es seq up_to r has is = by (write_of es seq) refl
   where
-    by : (o : Option Write) → write_of es seq ≡ o → r ≡ marked_by (entries_up_to es up_to) seq o
+    by : (o : Option Write) → write_of es seq ≡ o → r ≡ mark_of_write (entries_up_to es up_to) seq o
     by None at =
         let own : first_in tables.repeats seq ≡ seq = ap (λ (o : Option ℕ). unwrap_or o seq) (has.unwritten seq at) in
         none_last (place_at tables.marks (first_in tables.repeats seq)) seq up_to r
@@ -276,6 +276,6 @@ last_kept tables es seq up_to r has is = by (write_of es seq) refl
 pub none_up_to : (es : List Entry) (seq up_to : ℕ) → up_to < seq → None ≡ marked_up_to es seq up_to
 none_up_to es seq up_to low = by (write_of es seq)
   where
-    by : (o : Option Write) → None ≡ marked_by (entries_up_to es up_to) seq o
+    by : (o : Option Write) → None ≡ mark_of_write (entries_up_to es up_to) seq o
     by None = refl
     by (Some w) = sym (none_after (entries_up_to es up_to) (record { seq = seq; write = w }) (omega (arith, low, few_up_to es up_to)))

@@ -66,11 +66,11 @@ write_of [] seq = None
 write_of (e ∷ older) seq = if nat_eq seq (length older + 1) then as_write e else write_of older seq
 
 -- the last mark of the revision of a write of this sequence, where there is a write and a mark after it
-abbrev pub marked_by : List Entry → ℕ → Option Write → Option Marked
-marked_by es seq None = None
-marked_by es seq (Some w) = marked_after es (record { seq = seq; write = w })
+abbrev pub mark_of_write : List Entry → ℕ → Option Write → Option Marked
+mark_of_write es seq None = None
+mark_of_write es seq (Some w) = marked_after es (record { seq = seq; write = w })
 
 -- the last mark up to a place of the revision that the entry of a sequence writes; none where the effects are those of the write,
 -- and where the entry is no write
 abbrev pub marked_up_to : List Entry → ℕ → ℕ → Option Marked
-marked_up_to es seq place = marked_by (entries_up_to es place) seq (write_of es seq)
+marked_up_to es seq place = mark_of_write (entries_up_to es place) seq (write_of es seq)

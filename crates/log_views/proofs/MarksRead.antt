@@ -9,7 +9,7 @@ use Rattle.sg_history.specs.declared.entries.Write.{Write}
 use Rattle.sg_history.specs.History.{past}
 use Rattle.sg_history.specs.Current.{Effects, Sequenced, effects_of, effects_or, recorded_effects}
 use Rattle.log_index.specs.declared.marks.Marked.{Marked}
-use Rattle.log_index.specs.Marks.{effects_by, marked_after, marked_by, marked_up_to, write_of}
+use Rattle.log_index.specs.Marks.{effects_by, marked_after, mark_of_write, marked_up_to, write_of}
 use Rattle.log_views.specs.At.{write_at}
 use Rattle.log_views.specs.States.{effects_at_write, since_at_write, since_by}
 use Rattle.log_views.proofs.Looked.{not_there, older_mark, past_long, past_up_to, past_write, write_found, whole_up_to}
@@ -43,15 +43,15 @@ module _ (entries : List Entry) (n seq up_to : ℕ) (after : IsAfter) (within : 
   -- where the effects of a write stand
   marked_is : (w : Write) → write_at entries seq ≡ Some w → marked_up_to (past entries n) seq up_to ≡ marked_after (past entries up_to) (sequenced seq w)
   marked_is w at =
-      ap (λ (es : List Entry). marked_by es seq (write_of (past entries n) seq)) (past_up_to entries n up_to low)
+      ap (λ (es : List Entry). mark_of_write es seq (write_of (past entries n) seq)) (past_up_to entries n up_to low)
       ∙ elim (cases_lt n seq) [
         | inl beyond ↦ none beyond
-        | inr there ↦ ap (λ (o : Option Write). marked_by (past entries up_to) seq o) (past_write entries n seq pos there ∙ at)
+        | inr there ↦ ap (λ (o : Option Write). mark_of_write (past entries up_to) seq o) (past_write entries n seq pos there ∙ at)
       ]
     where
-      none : n < seq → marked_by (past entries up_to) seq (write_of (past entries n) seq) ≡ marked_after (past entries up_to) (sequenced seq w)
+      none : n < seq → mark_of_write (past entries up_to) seq (write_of (past entries n) seq) ≡ marked_after (past entries up_to) (sequenced seq w)
       none beyond =
-          ap (λ (o : Option Write). marked_by (past entries up_to) seq o) (not_there (past entries n) seq (omega (arith, past_long entries n, beyond)))
+          ap (λ (o : Option Write). mark_of_write (past entries up_to) seq o) (not_there (past entries n) seq (omega (arith, past_long entries n, beyond)))
           ∙ sym (none_later after within (past entries up_to) (sequenced seq w) (omega (arith, past_long entries up_to, beyond, low)))
 
   module _ (gives : GivesEffects) where
@@ -76,5 +76,5 @@ module _ (entries : List Entry) (n seq up_to : ℕ) (after : IsAfter) (within : 
 -- where the effects of a write that stands in all entries stand
 pub marked_whole : (es : List Entry) (seq : ℕ) (w : Write) → 0 < seq → write_at (reverse es) seq ≡ Some w → marked_up_to es seq (length es) ≡ marked_after es (sequenced seq w)
 marked_whole es seq w pos at =
-    ap (λ (more : List Entry). marked_by more seq (write_of es seq)) (whole_up_to es)
-    ∙ ap (λ (o : Option Write). marked_by es seq o) (write_found es seq pos ∙ at)
+    ap (λ (more : List Entry). mark_of_write more seq (write_of es seq)) (whole_up_to es)
+    ∙ ap (λ (o : Option Write). mark_of_write es seq o) (write_found es seq pos ∙ at)

@@ -10,21 +10,21 @@ use Rattle.sg_history.specs.FieldFaults.{IsFieldsFault}
 use Rattle.sg_history.specs.Files.{LineGrammar, IsBadFile}
 use Rattle.sg_history.specs.Pieces.{pieces}
 use Rattle.principals.specs.declared.admin_line.AdminLine.{AdminLine}
-use Rattle.principals.specs.Script.{IsLine, is_parent, line_of, parent_text, title}
+use Rattle.principals.specs.Script.{IsScriptLine, may_be_parent, script_line, script_parent, title}
 
 -- the grammars of fields: those of a journal's, and a revision's parent
-pub data Part : Type 0 where
-  field : Grammar → Part
-  parent : Part
+pub data ScriptField : Type 0 where
+  field : Grammar → ScriptField
+  parent : ScriptField
 
 -- a text in a grammar
-abbrev pub IsPart : Part → List ℕ → Type 0
-IsPart (field grammar) text = IsText grammar text
-IsPart parent text = IsUtf8 text × (v : Option RevId) × IsTrue (is_parent v) × (text ≡ parent_text v)
+abbrev pub IsScriptField : ScriptField → List ℕ → Type 0
+IsScriptField (field grammar) text = IsText grammar text
+IsScriptField parent text = IsUtf8 text × (v : Option RevId) × IsTrue (may_be_parent v) × (text ≡ script_parent v)
 
 -- the fields that follow a kind of line; none where this is no kind
-abbrev pub parts_of : List ℕ → Option (List Part)
-parts_of kind =
+abbrev pub script_parts : List ℕ → Option (List ScriptField)
+script_parts kind =
     if bytes_eq kind (codes "user") then Some (field journal.name ∷ field journal.channels ∷ field journal.names ∷ [])
     else if bytes_eq kind (codes "role") then Some (field journal.name ∷ field journal.channels ∷ [])
     else if bytes_eq kind (codes "dropuser") then Some (field journal.name ∷ [])
@@ -33,15 +33,15 @@ parts_of kind =
     else None
 
 -- what is wrong with the fields of a line: its kind, their number, or the first one outside its grammar
-abbrev pub IsFault : List (List ℕ) → Why → Type 0
-IsFault fields why = IsFieldsFault IsPart parts_of fields why
+abbrev pub IsScriptFault : List (List ℕ) → Why → Type 0
+IsScriptFault fields why = IsFieldsFault IsScriptField script_parts fields why
 
 -- the lines of a script
 abbrev pub script_lines : LineGrammar AdminLine
 script_lines = record {
   IsTitle = λ line. line ≡ title;
-  Says = λ older text l. IsLine l × (text ≡ line_of l);
-  Fails = λ older text why. IsFault (pieces 9 text) why;
+  Says = λ older text l. IsScriptLine l × (text ≡ script_line l);
+  Fails = λ older text why. IsScriptFault (pieces 9 text) why;
   may_end = λ older. true;
 }
 

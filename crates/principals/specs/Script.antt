@@ -21,8 +21,8 @@ abbrev pub title : List ℕ
 title = codes "sgadmin 1"
 
 -- the first line
-abbrev pub header : List ℕ
-header = codes "sgadmin 1\n"
+abbrev pub script_header : List ℕ
+script_header = codes "sgadmin 1\n"
 
 -- the entry that records a command
 abbrev pub entry_of : Command → Entry
@@ -32,14 +32,14 @@ entry_of (command.DropUser name) = entry.DropUser name
 entry_of (command.DropRole name) = entry.DropRole name
 
 -- a revision that another one follows, or `-` where there is none
-abbrev pub parent_text : Option RevId → List ℕ
-parent_text None = codes "-"
-parent_text (Some rev) = rev_text rev
+abbrev pub script_parent : Option RevId → List ℕ
+script_parent None = codes "-"
+script_parent (Some rev) = rev_text rev
 
 -- a revision that may be followed has a generation below the greatest
-abbrev pub is_parent : Option RevId → Bool
-is_parent None = true
-is_parent (Some rev) = is_rev rev && nat_lt rev.generation 4294967295
+abbrev pub may_be_parent : Option RevId → Bool
+may_be_parent None = true
+may_be_parent (Some rev) = is_rev rev && nat_lt rev.generation 4294967295
 
 -- the fields of a command's line
 abbrev pub command_fields : Command → List (List ℕ)
@@ -49,39 +49,39 @@ command_fields (command.DropUser name) = codes "dropuser" ∷ name ∷ []
 command_fields (command.DropRole name) = codes "droprole" ∷ name ∷ []
 
 -- the fields of a line
-abbrev pub fields_of : AdminLine → List (List ℕ)
-fields_of (line.Command c) = command_fields c
-fields_of (line.Doc doc parent deleted body) = codes "doc" ∷ doc ∷ parent_text parent ∷ deleted_text deleted ∷ hex_text body ∷ []
+abbrev pub script_fields : AdminLine → List (List ℕ)
+script_fields (line.Command c) = command_fields c
+script_fields (line.Doc doc parent deleted body) = codes "doc" ∷ doc ∷ script_parent parent ∷ deleted_text deleted ∷ hex_text body ∷ []
 
 -- a line, without its line feed
-abbrev pub line_of : AdminLine → List ℕ
-line_of l = join_with_byte 9 (fields_of l)
+abbrev pub script_line : AdminLine → List ℕ
+script_line l = join_with_byte 9 (script_fields l)
 
 -- the text of lines
-abbrev pub lines_of : List AdminLine → List ℕ
-lines_of [] = []
-lines_of (l ∷ ls) = line_of l ++ 10 ∷ lines_of ls
+abbrev pub script_text_lines : List AdminLine → List ℕ
+script_text_lines [] = []
+script_text_lines (l ∷ ls) = script_line l ++ 10 ∷ script_text_lines ls
 
 -- the text of a script
 abbrev pub script_text : List AdminLine → List ℕ
-script_text ls = header ++ lines_of ls
+script_text ls = script_header ++ script_text_lines ls
 
 -- a revision in its grammar: the document and the parent are, each is UTF-8, and the body has at least one byte
 pub record IsDoc (its_doc : List ℕ) (its_parent : Option RevId) (its_body : List ℕ) : Type 0 where
   pub doc : IsTrue (is_doc_id its_doc) × IsUtf8 its_doc
-  pub parent : IsTrue (is_parent its_parent) × IsUtf8 (parent_text its_parent)
+  pub parent : IsTrue (may_be_parent its_parent) × IsUtf8 (script_parent its_parent)
   pub body : IsTrue (is_body its_body)
 
 -- a line in its grammar, where a command is in it as its entry is
-abbrev pub IsLine : AdminLine → Type 0
-IsLine (line.Command c) = IsEntry (entry_of c)
-IsLine (line.Doc doc parent deleted body) = IsDoc doc parent body
+abbrev pub IsScriptLine : AdminLine → Type 0
+IsScriptLine (line.Command c) = IsEntry (entry_of c)
+IsScriptLine (line.Doc doc parent deleted body) = IsDoc doc parent body
 
 -- lines in their grammar
 abbrev pub AreLines : List AdminLine → Type 0
 AreLines [] = Unit {0}
-AreLines (l ∷ ls) = IsLine l × AreLines ls
+AreLines (l ∷ ls) = IsScriptLine l × AreLines ls
 
 -- the bytes are the script of these lines
-abbrev pub Spells : List ℕ → List AdminLine → Type 0
-Spells bytes ls = AreLines ls × (bytes ≡ script_text ls)
+abbrev pub SpellsScript : List ℕ → List AdminLine → Type 0
+SpellsScript bytes ls = AreLines ls × (bytes ≡ script_text ls)

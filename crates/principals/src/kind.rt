@@ -1,7 +1,7 @@
 //! The kinds of a script's lines.
 
 ghost use Rattle.std.specs.Prelude.{◌≡◌, None, IfSome, IfNone};
-ghost use Rattle.principals.specs.Faults.{parts_of};
+ghost use Rattle.principals.specs.Faults.{script_parts};
 ghost use Rattle.principals.specs.inner.Kinds.{kind_text};
 
 /// What a line says, by its first field.
@@ -17,7 +17,7 @@ pub enum Kind {
 /// The kind of a line with this first field, if it is one.
 pub fn kind_of(field: &[u8]) -> Option<Kind>
     ensures some { IfSome result (λ kind. field.now ≡ kind_text kind) }
-    ensures none { IfNone result (parts_of field.now ≡ None) }
+    ensures none { IfNone result (script_parts field.now ≡ None) }
 {
     if field == b"user".as_slice() {
         return Some(Kind::User);

@@ -3,8 +3,8 @@
 ghost use Rattle.std.specs.Prelude.{◌≡◌, ◌∷◌, ◌<◌, List, ℕ, map, length, codes, IfOk, IfErr};
 ghost use Rattle.sg_history.specs.Faults.{HasReason};
 ghost use Rattle.sg_history.specs.Pieces.{pieces};
-ghost use Rattle.principals.specs.Script.{IsLine, fields_of, line_of};
-ghost use Rattle.principals.specs.Faults.{IsFault};
+ghost use Rattle.principals.specs.Script.{IsScriptLine, script_fields, script_line};
+ghost use Rattle.principals.specs.Faults.{IsScriptFault};
 ghost use Rattle.principals.specs.inner.Kinds.{kind_text};
 
 use crate::admin_line::AdminLine;
@@ -20,10 +20,10 @@ const MOST: usize = 5;
 
 /// Reads the fields after this kind.
 fn read_kind(alloc: Global, kind: Kind, fields: &[&[u8]]) -> Result<AdminLine, LineFault>
-    ensures ok { IfOk result (λ line. IsLine line
-        × (kind_text kind ∷ map (λ p. p.now) fields.now ≡ fields_of line)) }
+    ensures ok { IfOk result (λ line. IsScriptLine line
+        × (kind_text kind ∷ map (λ p. p.now) fields.now ≡ script_fields line)) }
     ensures reason { IfErr result
-        (HasReason (IsFault (kind_text kind ∷ map (λ p. p.now) fields.now))) }
+        (HasReason (IsScriptFault (kind_text kind ∷ map (λ p. p.now) fields.now))) }
 {
     match kind {
         Kind::User => {
@@ -49,8 +49,8 @@ fn read_kind(alloc: Global, kind: Kind, fields: &[&[u8]]) -> Result<AdminLine, L
 /// Reads the fields of a line.
 fn read_fields(alloc: Global, fields: &[&[u8]]) -> Result<AdminLine, LineFault>
     ensures ok { IfOk result
-        (λ line. IsLine line × (map (λ p. p.now) fields.now ≡ fields_of line)) }
-    ensures reason { IfErr result (HasReason (IsFault (map (λ p. p.now) fields.now))) }
+        (λ line. IsScriptLine line × (map (λ p. p.now) fields.now ≡ script_fields line)) }
+    ensures reason { IfErr result (HasReason (IsScriptFault (map (λ p. p.now) fields.now))) }
 {
     let [kind, further @ ..] = fields else {
         return Err(LineFault::Bad(Why::Kind));
@@ -63,7 +63,7 @@ fn read_fields(alloc: Global, fields: &[&[u8]]) -> Result<AdminLine, LineFault>
 
 /// What is wrong with a line of this kind that has more fields than any kind.
 fn fault_of_kind(kind: &[u8]) -> Why
-    ensures { (texts : List (List ℕ)) → 4 < length texts → IsFault (kind.now ∷ texts) result }
+    ensures { (texts : List (List ℕ)) → 4 < length texts → IsScriptFault (kind.now ∷ texts) result }
 {
     match kind_of(kind) {
         Some(_) => Why::Fields,
@@ -74,7 +74,7 @@ fn fault_of_kind(kind: &[u8]) -> Why
 /// What is wrong with a line of more fields than any kind has.
 fn fault_of_many(line: &[u8]) -> Why
     requires { 5 < length (pieces 9 line.now) }
-    ensures { IsFault (pieces 9 line.now) result }
+    ensures { IsScriptFault (pieces 9 line.now) result }
 {
     match cut(line, b'\t') {
         Some((kind, _)) => fault_of_kind(kind),
@@ -84,8 +84,8 @@ fn fault_of_many(line: &[u8]) -> Why
 
 /// Reads a line, without its line feed.
 pub fn read_line(alloc: Global, line: &[u8]) -> Result<AdminLine, LineFault>
-    ensures ok { IfOk result (λ read. IsLine read × (line.now ≡ line_of read)) }
-    ensures reason { IfErr result (HasReason (IsFault (pieces 9 line.now))) }
+    ensures ok { IfOk result (λ read. IsScriptLine read × (line.now ≡ script_line read)) }
+    ensures reason { IfErr result (HasReason (IsScriptFault (pieces 9 line.now))) }
 {
     let mut fields: [&[u8]; MOST] = [&[]; MOST];
     match fields_of(line, &mut fields) {

@@ -4,7 +4,7 @@ ghost use Rattle.std.specs.Prelude.{◌≡◌, List, IfOk, IfErr};
 ghost use Rattle.sg_history.specs.BadLine.{NamesLine};
 ghost use Rattle.sg_history.specs.Refusal.{RefusesLog};
 ghost use Rattle.principals.specs.declared.admin_line.AdminLine.{AdminLine};
-ghost use Rattle.principals.specs.Script.{Spells};
+ghost use Rattle.principals.specs.Script.{SpellsScript};
 ghost use Rattle.principals.specs.Faults.{IsBadScript, script_lines};
 
 use crate::admin_line::{AdminLine, AdminLines};
@@ -53,9 +53,9 @@ impl ReadsLines for Script {
 /// is the first of: `Head` (line 1 is not the header), `Ending` (no line feed), `Kind`, `Fields` and `Field`, of which the
 /// first field is the kind.
 pub fn read_admin(alloc: Global, bytes: &[u8]) -> Result<AdminLines, ReadLog>
-    ensures ok { IfOk result (λ lines. Spells bytes.now lines) }
+    ensures ok { IfOk result (λ lines. SpellsScript bytes.now lines) }
     ensures bad { IfErr result
-        (λ e. RefusesLog e ((lines : List AdminLine) → ¬ (Spells bytes.now lines))) }
+        (λ e. RefusesLog e ((lines : List AdminLine) → ¬ (SpellsScript bytes.now lines))) }
     ensures line { IfErr result (NamesLine (IsBadScript bytes.now)) }
 {
     let mut script = Script {

@@ -25,7 +25,7 @@ use Rattle.repl_messages.specs.declared.request.Version.{Version}
 use Rattle.repl_messages.specs.declared.request.Version.TheVariants as version
 use Rattle.record_file.specs.Record.{owner_text, version_text}
 use Rattle.record_file.specs.Faults as faults
-use Rattle.record_file.specs.Faults.{NamesReason, Part, IsOwnerFault, IsPart, frame_fault, parts_of}
+use Rattle.record_file.specs.Faults.{NamesReason, RecordField, IsOwnerFault, IsRecordField, frame_fault, record_parts}
 
 -- the fields of the line of a user
 abbrev owner_fields : List ℕ → Version → List (List ℕ)
@@ -48,7 +48,7 @@ owner_pieces user v h = fields_pieces (owner_fields user v) (omega arith) (owner
 -- nothing is wrong with the line of a user
 pub owner_apart : (text user : List ℕ) (v : Version) (why : Why) → text ≡ owner_text user v → is_name user ≡ true → IsUtf8 user → ¬ (IsOwnerFault (pieces 9 text) why)
 owner_apart text user v why spelled is utf8 fault =
-    apart IsPart parts_of (owner_fields user v) why (subst (λ fields. IsOwnerFault fields why) (ap (pieces 9) spelled ∙ owner_pieces user v is) fault)
+    apart IsRecordField record_parts (owner_fields user v) why (subst (λ fields. IsOwnerFault fields why) (ap (pieces 9) spelled ∙ owner_pieces user v is) fault)
     ((utf8, is), ((v, refl), tt))
 
 two_apart : codes "2" ≢ codes "3"
@@ -84,7 +84,7 @@ version_decided text = elim (same_text text (codes "2")) [
     neither version.Two is no_two no_three = no_two is
     neither version.Three is no_two no_three = no_three is
 
-part_decided : (p : Part) (text : List ℕ) → Decided (IsPart p text)
+part_decided : (p : RecordField) (text : List ℕ) → Decided (IsRecordField p text)
 part_decided (faults.field g) text = text_decided g text
 part_decided faults.version text = version_decided text
 
@@ -96,10 +96,10 @@ pub record HasOwner (line : List ℕ) : Type 0 where
   pub text : line ≡ owner_text user version
 
 -- the fields that follow the kind `user`
-abbrev owner_parts : List Part
+abbrev owner_parts : List RecordField
 owner_parts = faults.field journal.name ∷ faults.version ∷ []
 
-texts_found : (line kind : List ℕ) (texts : List (List ℕ)) → line ≡ join_with_byte 9 (kind ∷ texts) → kind ≡ codes "user" → FitAll IsPart owner_parts texts → HasOwner line
+texts_found : (line kind : List ℕ) (texts : List (List ℕ)) → line ≡ join_with_byte 9 (kind ∷ texts) → kind ≡ codes "user" → FitAll IsRecordField owner_parts texts → HasOwner line
 texts_found line kind [] whole is fit = absurd fit
 texts_found line kind (name ∷ []) whole is fit = absurd fit.1
 texts_found line kind (name ∷ v ∷ other ∷ more) whole is fit = absurd fit.1.1
@@ -108,17 +108,17 @@ texts_found line kind (name ∷ v ∷ []) whole is fit =
     record { user = name; version = found.0; name = (fit.0.1, fit.0.0); text = whole ∙ (λ k. is k ++ 9 ∷ (name ++ 9 ∷ found.1 k)) }
 
 kind_found : (line kind : List ℕ) (texts : List (List ℕ)) (b : Bool) → line ≡ join_with_byte 9 (kind ∷ texts) → bytes_eq kind (codes "user") ≡ b
-    → FitKind IsPart (if b then Some owner_parts else None) texts → HasOwner line
+    → FitKind IsRecordField (if b then Some owner_parts else None) texts → HasOwner line
 kind_found line kind texts true whole is fit = texts_found line kind texts whole ((bytes_eq-Decides kind (codes "user")).0 is) fit
 kind_found line kind texts false whole is fit = absurd fit
 
-fields_found : (line : List ℕ) (fields : List (List ℕ)) → line ≡ join_with_byte 9 fields → AreFit IsPart parts_of fields → HasOwner line
+fields_found : (line : List ℕ) (fields : List (List ℕ)) → line ≡ join_with_byte 9 fields → AreFit IsRecordField record_parts fields → HasOwner line
 fields_found line [] whole fit = absurd fit
 fields_found line (kind ∷ texts) whole fit = kind_found line kind texts (bytes_eq kind (codes "user")) whole refl fit
 
 -- a line says whose session it is, or something is wrong with its fields
 pub owner_either : (text : List ℕ) → HasOwner text ⊎ ((why : Why) × IsOwnerFault (pieces 9 text) why)
-owner_either text = elim (fields_decided IsPart part_decided parts_of (pieces 9 text)) [
+owner_either text = elim (fields_decided IsRecordField part_decided record_parts (pieces 9 text)) [
   | inl fit ↦ inl (fields_found text (pieces 9 text) (sym (joined_pieces 9 text)) fit)
   | inr fault ↦ inr fault
 ]
@@ -128,7 +128,7 @@ pub other_kind : (kind : List ℕ) (texts : List (List ℕ)) → kind ≢ codes 
 other_kind kind texts other = elim (cases_Bool (bytes_eq kind (codes "user"))) [
   | inl same ↦ absurd (other ((bytes_eq-Decides kind (codes "user")).0 same))
   | inr apart ↦
-      subst (λ (o : Option (List Part)). IsKindFault IsPart o texts reason.Kind) (sym (ap (λ (b : Bool). if b then Some owner_parts else None) apart)) refl
+      subst (λ (o : Option (List Part)). IsKindFault IsRecordField o texts reason.Kind) (sym (ap (λ (b : Bool). if b then Some owner_parts else None) apart)) refl
 ]
 
 -- what is wrong with the fields behind the kind is wrong with the line
@@ -159,14 +159,14 @@ two_fields fields name version (Some p) cut none h = absurd (false≢true (sym n
 -- the name is outside its grammar
 pub bad_name : (ts : List (List ℕ)) (name version : List ℕ) (e : LineFault) → ts ≡ name ∷ version ∷ [] → IsBadField 2 journal.name name e
     → HasReason (IsOwnerFault (codes "user" ∷ ts)) e
-bad_name ts name version (line.Bad why) same bad = fault_at IsPart parts_of (codes "user") owner_parts ts (name ∷ version ∷ []) 0 why refl same refl bad.0 bad.1
+bad_name ts name version (line.Bad why) same bad = fault_at IsRecordField record_parts (codes "user") owner_parts ts (name ∷ version ∷ []) 0 why refl same refl bad.0 bad.1
 bad_name ts name version line.Memory same bad = tt
 
 -- the version is
 pub bad_version : (ts : List (List ℕ)) (name version : List ℕ) (e : LineFault) → ts ≡ name ∷ version ∷ [] → IsText journal.name name
-    → HasReason (λ why. (why ≡ reason.Field 3) × ¬ (IsPart faults.version version)) e → HasReason (IsOwnerFault (codes "user" ∷ ts)) e
+    → HasReason (λ why. (why ≡ reason.Field 3) × ¬ (IsRecordField faults.version version)) e → HasReason (IsOwnerFault (codes "user" ∷ ts)) e
 bad_version ts name version (line.Bad why) same is bad =
-    fault_at IsPart parts_of (codes "user") owner_parts ts (name ∷ version ∷ []) 1 why refl same refl bad.0 (is, bad.1)
+    fault_at IsRecordField record_parts (codes "user") owner_parts ts (name ∷ version ∷ []) 1 why refl same refl bad.0 (is, bad.1)
 bad_version ts name version line.Memory same is bad = tt
 
 -- what is said of a line that is to be a frame

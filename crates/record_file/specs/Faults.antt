@@ -14,22 +14,22 @@ use Rattle.repl_messages.specs.declared.request.Version.{Version}
 use Rattle.record_file.specs.Record.{version_text}
 
 -- the grammars of the second line's fields: those of a journal's, and a version
-pub data Part : Type 0 where
-  field : Grammar → Part
-  version : Part
+pub data RecordField : Type 0 where
+  field : Grammar → RecordField
+  version : RecordField
 
 -- a text in a grammar
-abbrev pub IsPart : Part → List ℕ → Type 0
-IsPart (field grammar) text = IsText grammar text
-IsPart version text = (v : Version) × (text ≡ version_text v)
+abbrev pub IsRecordField : RecordField → List ℕ → Type 0
+IsRecordField (field grammar) text = IsText grammar text
+IsRecordField version text = (v : Version) × (text ≡ version_text v)
 
 -- the fields that follow the kind of the second line; none where this is no kind
-abbrev pub parts_of : List ℕ → Option (List Part)
-parts_of kind = if bytes_eq kind (codes "user") then Some (field journal.name ∷ version ∷ []) else None
+abbrev pub record_parts : List ℕ → Option (List RecordField)
+record_parts kind = if bytes_eq kind (codes "user") then Some (field journal.name ∷ version ∷ []) else None
 
 -- what is wrong with the fields of the second line: its kind, their number, or the first one outside its grammar
 abbrev pub IsOwnerFault : List (List ℕ) → Why → Type 0
-IsOwnerFault fields why = IsFieldsFault IsPart parts_of fields why
+IsOwnerFault fields why = IsFieldsFault IsRecordField record_parts fields why
 
 -- a frame's line is at least one byte in lower-case hexadecimal
 abbrev pub frame_fault : List ℕ → Option Why

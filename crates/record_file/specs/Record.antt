@@ -15,8 +15,8 @@ use Rattle.record_file.specs.declared.item.Item.TheVariants as item
 use Rattle.record_file.specs.declared.record.Recorded.{Recorded}
 
 -- the first line
-abbrev pub header : List ℕ
-header = codes "sgsession 1"
+abbrev pub record_header : List ℕ
+record_header = codes "sgsession 1"
 
 -- `2` or `3`
 abbrev pub version_text : Version → List ℕ
@@ -39,7 +39,7 @@ items_text (i ∷ items) = item_text i ++ 10 ∷ items_text items
 
 -- the text of a recorded session
 abbrev pub record_text : Recorded → List ℕ
-record_text r = header ++ 10 ∷ owner_text r.user r.version ++ 10 ∷ items_text r.items
+record_text r = record_header ++ 10 ∷ owner_text r.user r.version ++ 10 ∷ items_text r.items
 
 -- a frame is at least one byte
 abbrev pub is_item : Item → Bool
@@ -47,7 +47,7 @@ is_item (item.Frame bytes) = nat_lt 0 (length bytes) && are_bytes bytes
 is_item item.Idle = true
 
 -- the bytes are the text of this session, whose parts are in their grammars
-pub record Spells (bytes : List ℕ) (r : Recorded) : Type 0 where
+pub record SpellsRecord (bytes : List ℕ) (r : Recorded) : Type 0 where
   pub user : IsTrue (is_name r.user) × IsUtf8 r.user
   pub items : IsTrue (list_all (λ i. is_item i) r.items)
   pub text : bytes ≡ record_text r

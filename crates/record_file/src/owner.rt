@@ -6,7 +6,7 @@ ghost use Rattle.sg_history.specs.Pieces.{pieces};
 ghost use Rattle.sg_names.specs.Grammar.{is_name};
 ghost use Rattle.record_file.specs.Record.{owner_text, version_text};
 ghost use Rattle.record_file.specs.Faults as faults;
-ghost use Rattle.record_file.specs.Faults.{IsOwnerFault, IsPart};
+ghost use Rattle.record_file.specs.Faults.{IsOwnerFault, IsRecordField};
 
 use repl_messages::Version;
 use sg_history::fault::LineFault;
@@ -24,7 +24,7 @@ pub struct Owner {
 fn read_version(field: &[u8]) -> Result<Version, LineFault>
     ensures ok { IfOk result (λ version. field.now ≡ version_text version) }
     ensures reason { IfErr result (HasReason
-        (λ why. (why ≡ Why.Field 3) × (¬ IsPart faults.version field.now))) }
+        (λ why. (why ≡ Why.Field 3) × (¬ IsRecordField faults.version field.now))) }
 {
     match field {
         b"2" => Ok(Version::Two),

@@ -5,7 +5,7 @@ ghost use Rattle.sg_history.specs.BadLine.{NamesLine};
 ghost use Rattle.sg_history.specs.Refusal.{RefusesLog};
 ghost use Rattle.record_file.specs.declared.record.Recorded.{Recorded};
 ghost use Rattle.record_file.specs.Lines.{IsBadRecord, lines_in, record_lines};
-ghost use Rattle.record_file.specs.Record.{Spells};
+ghost use Rattle.record_file.specs.Record.{SpellsRecord};
 
 use crate::item::Items;
 use crate::line::{Line, read_item};
@@ -75,8 +75,8 @@ impl ReadsLines for Reading {
 /// A line's faults are named in this order: `Head` (the first line), `Ending`, then `Kind` (the second line), `Fields`
 /// and the first `Field`.
 pub fn read_record(alloc: Global, bytes: &[u8]) -> Result<Recorded, ReadLog>
-    ensures ok { IfOk result (λ r. Spells bytes.now r) }
-    ensures bad { IfErr result (λ e. RefusesLog e ((r : Recorded) → ¬ (Spells bytes.now r))) }
+    ensures ok { IfOk result (λ r. SpellsRecord bytes.now r) }
+    ensures bad { IfErr result (λ e. RefusesLog e ((r : Recorded) → ¬ (SpellsRecord bytes.now r))) }
     ensures line { IfErr result (NamesLine (IsBadRecord bytes.now)) }
 {
     let mut reading = Reading { session: None };

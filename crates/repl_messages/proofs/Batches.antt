@@ -15,7 +15,7 @@ use Rattle.repl_messages.specs.declared.request.Version.{Version}
 use Rattle.repl_messages.specs.declared.request.Request.{Request}
 use Rattle.repl_messages.specs.declared.request.Request.TheVariants.{GetCheckpoint, SetCheckpoint, SubChanges, Rev}
 use Rattle.repl_messages.specs.declared.revision.Revision.{Revision}
-use Rattle.repl_messages.specs.Properties.{is_set}
+use Rattle.repl_messages.specs.Properties.{is_property_set}
 use Rattle.repl_messages.specs.declared.request.RequestFault.{RequestFault}
 use Rattle.repl_messages.specs.Numbers.{number_up_to}
 use Rattle.repl_messages.specs.Fields.{◌>>=◌, or_bad}
@@ -77,7 +77,7 @@ chained continuous (Ok key) (Ok n) (Ok filter) o low h = (h.0, h.1, low)
 -- what a subChanges is read as has a batch from 1 to 10,000, and such a key
 sub_bounded : (since : Result Key KeyFault) (version : Version) (props : List Pair) → IsSince (value_at props (codes "since")) since → IfOk (sub_changes since version props) IsBounded
 sub_bounded since version props is =
-    chained (is_set (codes "continuous") props) (since_of since) (batch_of (value_at props (codes "batch"))) (filter_of (value_at props (codes "filter")) (value_at props (codes "channels"))) (λ filter. options_of filter version props)
+    chained (is_property_set (codes "continuous") props) (since_of since) (batch_of (value_at props (codes "batch"))) (filter_of (value_at props (codes "filter")) (value_at props (codes "channels"))) (λ filter. options_of filter version props)
     (since_bounds since (since_read (value_at props (codes "since")) since is)) (batch_bounds (value_at props (codes "batch")))
 
 get_bounded : (client : Option (List ℕ)) → IfOk (or_bad fields.Client client >>= λ c. Ok (GetCheckpoint c)) IsBounded

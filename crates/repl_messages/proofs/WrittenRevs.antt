@@ -15,7 +15,7 @@ use Rattle.repl_messages.specs.Properties.{truth_of}
 use Rattle.repl_messages.specs.ReadAgain.{IsInGrammar, revision_of_row}
 use Rattle.repl_messages.specs.Requests.{IsAnswer}
 use Rattle.repl_messages.specs.Rev.{rev_payload, history_pairs}
-use Rattle.repl_messages.specs.Revisions.{IsHistory, document_of, revision, revision_of}
+use Rattle.repl_messages.specs.Revisions.{IsHistory, document_named, revision, revision_of}
 
 -- what stands behind the names
 abbrev rest : Bool → List ℕ → List RevId → List Pair
@@ -43,7 +43,7 @@ same_revision : (doc : List ℕ) (rev : RevId) (ancestors : List RevId) (body : 
     (record { doc = doc; rev = rev; ancestors = ancestors; deleted = marked; noconflicts = conflicts; body = body })
 same_revision doc rev ancestors body deleted marked conflicts h i = rw (h, i) refl
 
-named : (doc : List ℕ) → IsTrue (is_doc_id doc) → document_of doc ≡ Some doc
+named : (doc : List ℕ) → IsTrue (is_doc_id doc) → document_named doc ≡ Some doc
 named doc h = rw h refl
 
 pub rev_is_read : (row : Row) (ancestors : List RevId) (body : List ℕ) (version : Version) → IsInGrammar row → IsTrue (is_revs ancestors)

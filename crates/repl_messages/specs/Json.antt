@@ -10,5 +10,5 @@ abbrev pub json_of : List ℕ → Option Data
 json_of bytes = if is_utf8 bytes then read bytes else None
 
 -- the items of a body that is a JSON array; of any other body none
-abbrev pub items_in : List ℕ → Items
-items_in body = unwrap_or (option_and_then as_array (json_of body)) no_items
+abbrev pub body_items : List ℕ → Items
+body_items body = unwrap_or (option_and_then as_array (json_of body)) no_items

@@ -9,5 +9,5 @@ truth_of None = false
 truth_of (Some value) = not (bytes_eq value (codes "0") || bytes_eq value (codes "false"))
 
 -- whether a property is true
-abbrev pub is_set : List ℕ → List Pair → Bool
-is_set key props = truth_of (value_at props key)
+abbrev pub is_property_set : List ℕ → List Pair → Bool
+is_property_set key props = truth_of (value_at props key)

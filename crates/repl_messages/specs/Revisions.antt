@@ -13,11 +13,11 @@ use Rattle.repl_messages.specs.declared.request.Request.TheVariants.{Rev}
 use Rattle.repl_messages.specs.declared.request.RequestFault.{RequestFault}
 use Rattle.repl_messages.specs.declared.revision.Revision.{Revision}
 use Rattle.repl_messages.specs.Fields.{◌>>=◌, or_bad, IsReadAs}
-use Rattle.repl_messages.specs.Properties.{is_set}
+use Rattle.repl_messages.specs.Properties.{is_property_set}
 
 -- a text in the grammar of documents' names
-abbrev pub document_of : List ℕ → Option (List ℕ)
-document_of text = if is_doc_id text then Some text else None
+abbrev pub document_named : List ℕ → Option (List ℕ)
+document_named text = if is_doc_id text then Some text else None
 
 -- the revision of the property `rev`, which must be there
 abbrev pub IsRevision : Option (List ℕ) → Option RevId → Type 0
@@ -40,15 +40,15 @@ revision_of doc rev ancestors payload =
       doc = doc;
       rev = rev;
       ancestors = ancestors;
-      deleted = is_set (codes "deleted") payload.props;
-      noconflicts = is_set (codes "noconflicts") payload.props;
+      deleted = is_property_set (codes "deleted") payload.props;
+      noconflicts = is_property_set (codes "noconflicts") payload.props;
       body = payload.body;
     }
 
 -- a rev whose revision and history are read so: the request, or the first that is bad of id, rev and history
 abbrev pub revision : Option RevId → Option (List RevId) → Payload → Result Request RequestFault
 revision rev history payload = do
-  doc ← or_bad fields.Id (option_and_then document_of (value_at payload.props (codes "id")))
+  doc ← or_bad fields.Id (option_and_then document_named (value_at payload.props (codes "id")))
   its_rev ← or_bad fields.Rev rev
   ancestors ← or_bad fields.History history
   Ok (Rev (revision_of doc its_rev ancestors payload))

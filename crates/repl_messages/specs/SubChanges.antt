@@ -18,7 +18,7 @@ use Rattle.repl_messages.specs.declared.request.RequestFault.{RequestFault}
 use Rattle.repl_messages.specs.declared.request.RequestFault.TheVariants.{Bad400, LowForm400}
 use Rattle.repl_messages.specs.Fields.{◌>>=◌, or_bad}
 use Rattle.repl_messages.specs.Numbers.{number_up_to}
-use Rattle.repl_messages.specs.Properties.{is_set}
+use Rattle.repl_messages.specs.Properties.{is_property_set}
 
 -- what stands before a double quote that ends the bytes
 abbrev pub before_quote : List ℕ → Option (List ℕ)
@@ -54,15 +54,15 @@ batch_of None = Ok 200
 batch_of (Some value) = or_bad fields.Batch (number_up_to 10000 value)
 
 -- channels' names with a comma between each two, in any order, of which one may stand twice
-abbrev pub listed : List ℕ → Option (List (List ℕ))
-listed text =
+abbrev pub channel_list : List ℕ → Option (List (List ℕ))
+channel_list text =
     let names : List (List ℕ) = slice_split (λ b. b == 44) text in
     if list_all (λ n. is_channel_name n) names then Some names else None
 
 -- the filter by channels needs their list
 abbrev pub channels_of : Option (List ℕ) → Result (List (List ℕ)) RequestFault
 channels_of None = Err (Bad400 fields.Channels)
-channels_of (Some value) = or_bad fields.Channels (listed value)
+channels_of (Some value) = or_bad fields.Channels (channel_list value)
 
 -- no filter, in which case the channels are passed over, or the filter by channels
 abbrev pub filter_of : Option (List ℕ) → Option (List ℕ) → Result (Option (List (List ℕ))) RequestFault
@@ -77,11 +77,11 @@ filter_of (Some name) channels =
 -- version two has no revocations
 abbrev pub revocations_of : Version → List Pair → Bool
 revocations_of Two props = false
-revocations_of Three props = is_set (codes "revocations") props
+revocations_of Three props = is_property_set (codes "revocations") props
 
 abbrev pub options_of : Option (List (List ℕ)) → Version → List Pair → Options
 options_of filter version props =
-    record { filter = filter; active_only = is_set (codes "activeOnly") props; revocations = revocations_of version props }
+    record { filter = filter; active_only = is_property_set (codes "activeOnly") props; revocations = revocations_of version props }
 
 -- a subChanges whose since is read so: the request, or the first bad property of since, batch, filter and channels
 abbrev pub sub_changes : Result Key KeyFault → Version → List Pair → Result Request RequestFault
@@ -89,7 +89,7 @@ sub_changes since version props = do
   key ← since_of since
   batch ← batch_of (value_at props (codes "batch"))
   filter ← filter_of (value_at props (codes "filter")) (value_at props (codes "channels"))
-  Ok (SubChanges key (is_set (codes "continuous") props) batch (options_of filter version props))
+  Ok (SubChanges key (is_property_set (codes "continuous") props) batch (options_of filter version props))
 
 -- what a subChanges with these properties is read as
 abbrev pub IsSubChanges : List Pair → Version → Result Request RequestFault → Type 0

@@ -4,13 +4,13 @@ use Rattle.blip_frame.specs.declared.frame.Kind.{Kind}
 use Rattle.blip_frame.specs.declared.frame.Kind.TheVariants as kinds
 use Rattle.serde_json.specs.Data.{Items, no_items, item}
 use Rattle.serde_json.specs.Find.{as_array}
-use Rattle.repl_messages.specs.Json.{items_in}
+use Rattle.repl_messages.specs.Json.{body_items}
 use Rattle.repl_messages.specs.Numbers.{number_up_to}
 
 -- the items of a reply; an error has none
 abbrev pub reply_items : Kind → List ℕ → Items
 reply_items kinds.Err body = no_items
-reply_items _ body = items_in body
+reply_items _ body = body_items body
 
 -- whether there is a first item and it is an array
 abbrev pub is_first_array : Items → Bool

@@ -10,7 +10,7 @@ use std::alloc::{AllocError, Global};
 
 /// The items of a body that is a JSON array; of any other body none.
 pub(crate) fn items_in(alloc: Global, body: &[u8]) -> Result<Vec<Value>, Memory>
-    ensures { IfOk result (λ items. items_view items.items ≡ json.items_in body.now) }
+    ensures { IfOk result (λ items. items_view items.items ≡ json.body_items body.now) }
 {
     match value_of(alloc, body)? {
         Some(Value::Array(items)) => Ok(items),

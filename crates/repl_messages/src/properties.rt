@@ -20,7 +20,7 @@ fn truth_of(value: Option<&str>) -> bool
 
 /// Whether the property is true.
 pub(crate) fn is_set(key: &str, props: &Props) -> bool
-    ensures { result ≡ properties.is_set key.now props.now }
+    ensures { result ≡ properties.is_property_set key.now props.now }
 {
     truth_of(props.get(key))
 }

@@ -32,7 +32,7 @@ pub struct Revision {
 fn document_of(alloc: Global, value: Option<&str>) -> Result<DocId, RequestFault>
     ensures { result ≢ Err RequestFault.Memory → result
         ≡ fields.or_bad Field.Id
-        (option_and_then revisions.document_of (option_copied value.entry)) }
+        (option_and_then revisions.document_named (option_copied value.entry)) }
 {
     let Some(text) = value else {
         return Err(RequestFault::Bad400 { field: Field::Id });

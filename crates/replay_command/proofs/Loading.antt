@@ -7,7 +7,7 @@ use Rattle.sg_outside.specs.declared.files.Loaded.TheVariants.{Whole, Longer, Fa
 use Rattle.sg_history.specs.declared.fault.Why.{Why}
 use Rattle.command_line.specs.declared.status.Status.{Status}
 use Rattle.command_line.specs.declared.status.Status.TheVariants as status
-use Rattle.command_line.specs.Loads.{AreAccepted, IsLoadAnswer, IsStopped, NeedsFile, TellsOf}
+use Rattle.command_line.specs.Loads.{AreAcceptedLoads, IsLoadAnswer, IsStopped, NeedsFile, TellsOf}
 use Rattle.command_line.specs.Run.{HasFile}
 
 module _ (recorded : Option (List ℕ → Option (List ℕ))) (IsGood : ℕ → List ℕ → Type 0) (IsBad : ℕ → List ℕ → ℕ → Why → Type 0) where
@@ -25,7 +25,7 @@ module _ (recorded : Option (List ℕ → Option (List ℕ))) (IsGood : ℕ → 
   not_loaded X number name Memory s is needs = (refl, is)
 
   pub accepted : {X : Type 0} (number : ℕ) (name : List ℕ) (answer : Loaded) (x : X) → IsLoadAnswer number answer (Ok x) → NeedsFile recorded name answer → ((bytes : List ℕ) → HasFile recorded name bytes → IsGood number bytes)
-      → AreAccepted recorded IsGood IsBad number (name ∷ []) (record { name = name; answer = answer } ∷ [])
+      → AreAcceptedLoads recorded IsGood IsBad number (name ∷ []) (record { name = name; answer = answer } ∷ [])
   accepted number name Whole x is needs good = (record { load_is = refl; there = needs; good = good }, tt)
   accepted number name Longer x is needs good = absurd is
   accepted number name Failed x is needs good = absurd is
@@ -41,16 +41,16 @@ module _ (recorded : Option (List ℕ → Option (List ℕ))) (IsGood : ℕ → 
 
   -- ---- one after another
 
-  pub accepted_all : (number : ℕ) (names more : List (List ℕ)) (loads later : List Load) → AreAccepted recorded IsGood IsBad number names loads → AreAccepted recorded IsGood IsBad (number + length names) more later
-      → AreAccepted recorded IsGood IsBad number (names ++ more) (loads ++ later)
-  accepted_all number [] more [] later are then = subst (λ (n : ℕ). AreAccepted recorded IsGood IsBad n more later) (omega arith) then
+  pub accepted_all : (number : ℕ) (names more : List (List ℕ)) (loads later : List Load) → AreAcceptedLoads recorded IsGood IsBad number names loads → AreAcceptedLoads recorded IsGood IsBad (number + length names) more later
+      → AreAcceptedLoads recorded IsGood IsBad number (names ++ more) (loads ++ later)
+  accepted_all number [] more [] later are then = subst (λ (n : ℕ). AreAcceptedLoads recorded IsGood IsBad n more later) (omega arith) then
   accepted_all number [] more (l ∷ loads) later are then = absurd are
   accepted_all number (n ∷ names) more [] later are then = absurd are
   accepted_all number (n ∷ names) more (l ∷ loads) later are then =
-      (are.0, accepted_all (number + 1) names more loads later are.1 (subst (λ (k : ℕ). AreAccepted recorded IsGood IsBad k more later) (omega arith) then))
+      (are.0, accepted_all (number + 1) names more loads later are.1 (subst (λ (k : ℕ). AreAcceptedLoads recorded IsGood IsBad k more later) (omega arith) then))
 
   -- out of memory behind files that were accepted
-  pub out_of_memory : (number : ℕ) (name : List ℕ) (names : List (List ℕ)) (loads : List Load) → AreAccepted recorded IsGood IsBad number (name ∷ names) loads → IsStopped recorded IsGood IsBad number (name ∷ names) loads status.Memory
+  pub out_of_memory : (number : ℕ) (name : List ℕ) (names : List (List ℕ)) (loads : List Load) → AreAcceptedLoads recorded IsGood IsBad number (name ∷ names) loads → IsStopped recorded IsGood IsBad number (name ∷ names) loads status.Memory
   out_of_memory number name [] [] are = absurd are
   out_of_memory number name [] (l ∷ []) are =
       subst (λ (x : Load). (x.name ≡ name) × TellsOf recorded IsGood IsBad number name x.answer status.Memory) (sym are.0.load_is) (refl, inl refl)
@@ -67,7 +67,7 @@ module _ (recorded : Option (List ℕ → Option (List ℕ))) (IsGood : ℕ → 
   stopped_before number (n ∷ names) more (l ∷ m ∷ loads) s stopped = (stopped.0, stopped_before (number + 1) names more (m ∷ loads) s stopped.1)
 
   -- a stop behind files that were accepted
-  pub stopped_behind : (number : ℕ) (names more : List (List ℕ)) (loads later : List Load) (s : Status) → AreAccepted recorded IsGood IsBad number names loads → IsStopped recorded IsGood IsBad (number + length names) more later s
+  pub stopped_behind : (number : ℕ) (names more : List (List ℕ)) (loads later : List Load) (s : Status) → AreAcceptedLoads recorded IsGood IsBad number names loads → IsStopped recorded IsGood IsBad (number + length names) more later s
       → IsStopped recorded IsGood IsBad number (names ++ more) (loads ++ later) s
   stopped_behind number [] more [] later s are stopped = subst (λ (n : ℕ). IsStopped recorded IsGood IsBad n more later s) (omega arith) stopped
   stopped_behind number [] more (l ∷ loads) later s are stopped = absurd are
@@ -106,21 +106,21 @@ next_length number names i low = omega (arith, length-take-le i names (omega (ar
 
 module _ (recorded : Option (List ℕ → Option (List ℕ))) (IsGood : ℕ → List ℕ → Type 0) (IsBad : ℕ → List ℕ → ℕ → Why → Type 0) where
   pub accepted_next : (number : ℕ) (names : List (List ℕ)) (i : ℕ) (name : List ℕ) (before between after : List Load) → i < length names → name ≡ get_or names i name
-      → ((d : List Load) × (between ≡ before ++ d) × AreAccepted recorded IsGood IsBad number (take i names) d)
-      → ((e : List Load) × (after ≡ between ++ e) × AreAccepted recorded IsGood IsBad (number + i) (name ∷ []) e)
-      → (f : List Load) × (after ≡ before ++ f) × AreAccepted recorded IsGood IsBad number (take (i + 1) names) f
+      → ((d : List Load) × (between ≡ before ++ d) × AreAcceptedLoads recorded IsGood IsBad number (take i names) d)
+      → ((e : List Load) × (after ≡ between ++ e) × AreAcceptedLoads recorded IsGood IsBad (number + i) (name ∷ []) e)
+      → (f : List Load) × (after ≡ before ++ f) × AreAcceptedLoads recorded IsGood IsBad number (take (i + 1) names) f
   accepted_next number names i name before between after low is a b =
-      both (λ d. AreAccepted recorded IsGood IsBad number (take i names) d) (λ e. AreAccepted recorded IsGood IsBad (number + i) (name ∷ []) e) (λ f. AreAccepted recorded IsGood IsBad number (take (i + 1) names) f) before between after
-      (λ d e are next. subst (λ (ns : List (List ℕ)). AreAccepted recorded IsGood IsBad number ns (d ++ e)) (next_split names i name low is)
-      (accepted_all recorded IsGood IsBad number (take i names) (name ∷ []) d e are (subst (λ (k : ℕ). AreAccepted recorded IsGood IsBad k (name ∷ []) e) (next_length number names i low) next)))
+      both (λ d. AreAcceptedLoads recorded IsGood IsBad number (take i names) d) (λ e. AreAcceptedLoads recorded IsGood IsBad (number + i) (name ∷ []) e) (λ f. AreAcceptedLoads recorded IsGood IsBad number (take (i + 1) names) f) before between after
+      (λ d e are next. subst (λ (ns : List (List ℕ)). AreAcceptedLoads recorded IsGood IsBad number ns (d ++ e)) (next_split names i name low is)
+      (accepted_all recorded IsGood IsBad number (take i names) (name ∷ []) d e are (subst (λ (k : ℕ). AreAcceptedLoads recorded IsGood IsBad k (name ∷ []) e) (next_length number names i low) next)))
       a b
 
   pub stopped_next : (number : ℕ) (names : List (List ℕ)) (i : ℕ) (name : List ℕ) (s : Status) (before between after : List Load) → i < length names → name ≡ get_or names i name
-      → ((d : List Load) × (between ≡ before ++ d) × AreAccepted recorded IsGood IsBad number (take i names) d)
+      → ((d : List Load) × (between ≡ before ++ d) × AreAcceptedLoads recorded IsGood IsBad number (take i names) d)
       → ((e : List Load) × (after ≡ between ++ e) × IsStopped recorded IsGood IsBad (number + i) (name ∷ []) e s)
       → (f : List Load) × (after ≡ before ++ f) × IsStopped recorded IsGood IsBad number names f s
   stopped_next number names i name s before between after low is a b =
-      both (λ d. AreAccepted recorded IsGood IsBad number (take i names) d) (λ e. IsStopped recorded IsGood IsBad (number + i) (name ∷ []) e s) (λ f. IsStopped recorded IsGood IsBad number names f s) before between after
+      both (λ d. AreAcceptedLoads recorded IsGood IsBad number (take i names) d) (λ e. IsStopped recorded IsGood IsBad (number + i) (name ∷ []) e s) (λ f. IsStopped recorded IsGood IsBad number names f s) before between after
       (λ d e are stopped. subst (λ (ns : List (List ℕ)). IsStopped recorded IsGood IsBad number ns (d ++ e) s) (take-append-drop (i + 1) names)
       (stopped_before recorded IsGood IsBad number (take (i + 1) names) (drop (i + 1) names) (d ++ e) s
       (subst (λ (ns : List (List ℕ)). IsStopped recorded IsGood IsBad number ns (d ++ e) s) (next_split names i name low is)
@@ -128,16 +128,16 @@ module _ (recorded : Option (List ℕ → Option (List ℕ))) (IsGood : ℕ → 
       a b
 
   -- out of memory behind the next file
-  memory_next : (number : ℕ) (names : List (List ℕ)) (i : ℕ) (done : List Load) → i < length names → AreAccepted recorded IsGood IsBad number (take (i + 1) names) done → IsStopped recorded IsGood IsBad number names done status.Memory
+  memory_next : (number : ℕ) (names : List (List ℕ)) (i : ℕ) (done : List Load) → i < length names → AreAcceptedLoads recorded IsGood IsBad number (take (i + 1) names) done → IsStopped recorded IsGood IsBad number names done status.Memory
   memory_next number [] i done low are = absurd (omega (arith, low))
   memory_next number (n ∷ names) i done low are =
       let more : i + 1 ≡ suc i = omega arith in
       let cons : take (i + 1) (n ∷ names) ≡ n ∷ take i names = ap (λ (k : ℕ). take k (n ∷ names)) more in
-      let here : IsStopped recorded IsGood IsBad number (n ∷ take i names) done status.Memory = out_of_memory recorded IsGood IsBad number n (take i names) done (subst (λ (ns : List (List ℕ)). AreAccepted recorded IsGood IsBad number ns done) cons are) in
+      let here : IsStopped recorded IsGood IsBad number (n ∷ take i names) done status.Memory = out_of_memory recorded IsGood IsBad number n (take i names) done (subst (λ (ns : List (List ℕ)). AreAcceptedLoads recorded IsGood IsBad number ns done) cons are) in
       subst (λ (ns : List (List ℕ)). IsStopped recorded IsGood IsBad number ns done status.Memory) (ap (λ (ns : List (List ℕ)). n ∷ ns) (take-append-drop i names))
       (stopped_before recorded IsGood IsBad number (n ∷ take i names) (drop i names) done status.Memory here)
 
-  pub out_of_memory_next : (number : ℕ) (names : List (List ℕ)) (i : ℕ) (before after : List Load) → i < length names → ((d : List Load) × (after ≡ before ++ d) × AreAccepted recorded IsGood IsBad number (take (i + 1) names) d)
+  pub out_of_memory_next : (number : ℕ) (names : List (List ℕ)) (i : ℕ) (before after : List Load) → i < length names → ((d : List Load) × (after ≡ before ++ d) × AreAcceptedLoads recorded IsGood IsBad number (take (i + 1) names) d)
       → (f : List Load) × (after ≡ before ++ f) × IsStopped recorded IsGood IsBad number names f status.Memory
   out_of_memory_next number names i before after low a =
-      only (λ d. AreAccepted recorded IsGood IsBad number (take (i + 1) names) d) (λ f. IsStopped recorded IsGood IsBad number names f status.Memory) before after (λ d are. memory_next number names i d low are) a
+      only (λ d. AreAcceptedLoads recorded IsGood IsBad number (take (i + 1) names) d) (λ f. IsStopped recorded IsGood IsBad number names f status.Memory) before after (λ d are. memory_next number names i d low are) a

@@ -68,11 +68,11 @@ is_config bytes loaded c same fits is = (
   subst (λ (b : List ℕ). IsTextOf b c) same is.1,
 )
 
-pub is_script : (bytes loaded : List ℕ) (ls : List AdminLine) → loaded ≡ bytes → length bytes ≤ largest_file → script.Spells loaded ls → IsScriptIn bytes ls
-is_script bytes loaded ls same fits is = (fits, subst (λ (b : List ℕ). script.Spells b ls) same is)
+pub is_script : (bytes loaded : List ℕ) (ls : List AdminLine) → loaded ≡ bytes → length bytes ≤ largest_file → script.SpellsScript loaded ls → IsScriptIn bytes ls
+is_script bytes loaded ls same fits is = (fits, subst (λ (b : List ℕ). script.SpellsScript b ls) same is)
 
-pub is_session : (bytes loaded : List ℕ) (r : Recorded) → loaded ≡ bytes → length bytes ≤ largest_file → record_file.Spells loaded r → IsSessionIn bytes r
-is_session bytes loaded r same fits is = (fits, subst (λ (b : List ℕ). record_file.Spells b r) same is)
+pub is_session : (bytes loaded : List ℕ) (r : Recorded) → loaded ≡ bytes → length bytes ≤ largest_file → record_file.SpellsRecord loaded r → IsSessionIn bytes r
+is_session bytes loaded r same fits is = (fits, subst (λ (b : List ℕ). record_file.SpellsRecord b r) same is)
 
 -- bytes with a fault are no configuration
 no_config : (bytes loaded : List ℕ) (fault : Fault) → loaded ≡ bytes → length bytes ≤ largest_file → config_fault loaded ≡ Some fault → IsBadConfig bytes 0 (whys.Config fault.path fault.why) × ((c : Config) → ¬ IsConfigIn bytes c)
@@ -86,16 +86,16 @@ refused_config bytes loaded (config.Bad path why) s same fits is named =
     subst (λ (t : Status). IsConfigRead bytes (Err t)) (sym is) ((refl, no.0), no.1)
 refused_config bytes loaded config.Memory s same fits is named = subst (λ (t : Status). IsConfigRead bytes (Err t)) (sym is) tt
 
-no_script : (bytes loaded : List ℕ) (place : ℕ) (why : Why) → loaded ≡ bytes → length bytes ≤ largest_file → IsBadScript loaded (record { place = place; why = why }) → ((ls : List AdminLine) → ¬ script.Spells loaded ls) → IsBadAdmin bytes place why × ((ls : List AdminLine) → ¬ IsScriptIn bytes ls)
+no_script : (bytes loaded : List ℕ) (place : ℕ) (why : Why) → loaded ≡ bytes → length bytes ≤ largest_file → IsBadScript loaded (record { place = place; why = why }) → ((ls : List AdminLine) → ¬ script.SpellsScript loaded ls) → IsBadAdmin bytes place why × ((ls : List AdminLine) → ¬ IsScriptIn bytes ls)
 no_script bytes loaded place why same fits bad none = (
   inr (fits, subst (λ (b : List ℕ). IsBadScript b (record { place = place; why = why })) same bad),
-  λ ls is. none ls (subst (λ (b : List ℕ). script.Spells b ls) (sym same) is.1),
+  λ ls is. none ls (subst (λ (b : List ℕ). script.SpellsScript b ls) (sym same) is.1),
 )
 
-no_session : (bytes loaded : List ℕ) (place : ℕ) (why : Why) → loaded ≡ bytes → length bytes ≤ largest_file → IsBadRecord loaded (record { place = place; why = why }) → ((r : Recorded) → ¬ record_file.Spells loaded r) → IsBadSession bytes place why × ((r : Recorded) → ¬ IsSessionIn bytes r)
+no_session : (bytes loaded : List ℕ) (place : ℕ) (why : Why) → loaded ≡ bytes → length bytes ≤ largest_file → IsBadRecord loaded (record { place = place; why = why }) → ((r : Recorded) → ¬ record_file.SpellsRecord loaded r) → IsBadSession bytes place why × ((r : Recorded) → ¬ IsSessionIn bytes r)
 no_session bytes loaded place why same fits bad none = (
   inr (fits, subst (λ (b : List ℕ). IsBadRecord b (record { place = place; why = why })) same bad),
-  λ r is. none r (subst (λ (b : List ℕ). record_file.Spells b r) (sym same) is.1),
+  λ r is. none r (subst (λ (b : List ℕ). record_file.SpellsRecord b r) (sym same) is.1),
 )
 
 -- a file that was refused was not read: what is wrong with it is what the refusal names
@@ -117,21 +117,21 @@ refused_read view Is IsBad number read.Memory status.WriteFault refused named = 
 refused_read view Is IsBad number read.Memory status.DoorFault refused named = absurd refused
 refused_read view Is IsBad number read.Memory status.Memory refused named = tt
 
-pub refused_script : (bytes loaded : List ℕ) (fault : ReadLog) (s : Status) → loaded ≡ bytes → length bytes ≤ largest_file → IsRefused 2 fault s → NamesLine (IsBadScript loaded) fault → RefusesLog fault ((ls : List AdminLine) → ¬ script.Spells loaded ls) → IsScriptRead bytes (Err s)
+pub refused_script : (bytes loaded : List ℕ) (fault : ReadLog) (s : Status) → loaded ≡ bytes → length bytes ≤ largest_file → IsRefused 2 fault s → NamesLine (IsBadScript loaded) fault → RefusesLog fault ((ls : List AdminLine) → ¬ script.SpellsScript loaded ls) → IsScriptRead bytes (Err s)
 refused_script bytes loaded fault s same fits refused line bad =
     refused_read (λ (ls : List AdminLine). ls) (IsScriptIn bytes) (IsBadAdmin bytes) 2 fault s refused
     (λ place why is.
     no_script bytes loaded place why same fits
     (subst (λ (f : ReadLog). NamesLine (IsBadScript loaded) f) is line)
-    (subst (λ (f : ReadLog). RefusesLog f ((ls : List AdminLine) → ¬ script.Spells loaded ls)) is bad))
+    (subst (λ (f : ReadLog). RefusesLog f ((ls : List AdminLine) → ¬ script.SpellsScript loaded ls)) is bad))
 
-pub refused_session : (number : ℕ) (bytes loaded : List ℕ) (fault : ReadLog) (s : Status) → loaded ≡ bytes → length bytes ≤ largest_file → IsRefused number fault s → NamesLine (IsBadRecord loaded) fault → RefusesLog fault ((r : Recorded) → ¬ record_file.Spells loaded r) → IsSessionRead number bytes (Err s)
+pub refused_session : (number : ℕ) (bytes loaded : List ℕ) (fault : ReadLog) (s : Status) → loaded ≡ bytes → length bytes ≤ largest_file → IsRefused number fault s → NamesLine (IsBadRecord loaded) fault → RefusesLog fault ((r : Recorded) → ¬ record_file.SpellsRecord loaded r) → IsSessionRead number bytes (Err s)
 refused_session number bytes loaded fault s same fits refused line bad =
     refused_read (λ (r : Recorded). r) (IsSessionIn bytes) (IsBadSession bytes) number fault s refused
     (λ place why is.
     no_session bytes loaded place why same fits
     (subst (λ (f : ReadLog). NamesLine (IsBadRecord loaded) f) is line)
-    (subst (λ (f : ReadLog). RefusesLog f ((r : Recorded) → ¬ record_file.Spells loaded r)) is bad))
+    (subst (λ (f : ReadLog). RefusesLog f ((r : Recorded) → ¬ record_file.SpellsRecord loaded r)) is bad))
 
 -- ---- the recorded sessions
 

@@ -54,11 +54,11 @@ IsConfigIn bytes config = (length bytes ≤ largest_file) × (config_fault bytes
 
 -- no more bytes than a file may have, which spell the lines
 abbrev pub IsScriptIn : List ℕ → List AdminLine → Type 0
-IsScriptIn bytes lines = (length bytes ≤ largest_file) × script.Spells bytes lines
+IsScriptIn bytes lines = (length bytes ≤ largest_file) × script.SpellsScript bytes lines
 
 -- no more bytes than a file may have, which spell the recorded session
 abbrev pub IsSessionIn : List ℕ → Recorded → Type 0
-IsSessionIn bytes recorded = (length bytes ≤ largest_file) × record_file.Spells bytes recorded
+IsSessionIn bytes recorded = (length bytes ≤ largest_file) × record_file.SpellsRecord bytes recorded
 
 abbrev pub AreSessionsIn : List (List ℕ) → List Recorded → Type 0
 AreSessionsIn [] [] = Unit {0}
@@ -73,21 +73,21 @@ pub record AreInputs (contents : Contents) (i : Inputs) : Type 0 where
 -- ---- what is wrong with them
 
 -- the bytes are more than a file may have, at place 0, or else this is wrong with them
-abbrev pub IsBadFile : List ℕ → Type 0 → ℕ → Why → Type 0
-IsBadFile bytes IsBad place why = ((largest_file < length bytes) × (place ≡ 0) × (why ≡ whys.Long)) ⊎ ((length bytes ≤ largest_file) × IsBad)
+abbrev pub IsBadInputFile : List ℕ → Type 0 → ℕ → Why → Type 0
+IsBadInputFile bytes IsBad place why = ((largest_file < length bytes) × (place ≡ 0) × (why ≡ whys.Long)) ⊎ ((length bytes ≤ largest_file) × IsBad)
 
 -- the configuration's first bad member, at place 0
 abbrev pub IsBadConfig : List ℕ → ℕ → Why → Type 0
 IsBadConfig bytes place why =
-    IsBadFile bytes ((fault : Fault) × (config_fault bytes ≡ Some fault) × (place ≡ 0) × (why ≡ whys.Config fault.path fault.why)) place why
+    IsBadInputFile bytes ((fault : Fault) × (config_fault bytes ≡ Some fault) × (place ≡ 0) × (why ≡ whys.Config fault.path fault.why)) place why
 
 -- the script's first bad line
 abbrev pub IsBadAdmin : List ℕ → ℕ → Why → Type 0
-IsBadAdmin bytes place why = IsBadFile bytes (IsBadScript bytes (record { place = place; why = why })) place why
+IsBadAdmin bytes place why = IsBadInputFile bytes (IsBadScript bytes (record { place = place; why = why })) place why
 
 -- the recorded session's first bad line
 abbrev pub IsBadSession : List ℕ → ℕ → Why → Type 0
-IsBadSession bytes place why = IsBadFile bytes (IsBadRecord bytes (record { place = place; why = why })) place why
+IsBadSession bytes place why = IsBadInputFile bytes (IsBadRecord bytes (record { place = place; why = why })) place why
 
 -- the first bad one of recorded sessions, of which the first has this number among the files
 abbrev pub IsBadSessionAmong : ℕ → List (List ℕ) → ℕ → ℕ → Why → Type 0
@@ -98,8 +98,8 @@ IsBadSessionAmong number (bytes ∷ contents) file place why =
 
 -- The first bad file, by its number among the command's words, counted from 1: the configuration, or else the script, or else a recorded
 -- session; with the place and what is wrong there.
-abbrev pub IsFirstBad : Contents → ℕ → ℕ → Why → Type 0
-IsFirstBad contents file place why =
+abbrev pub IsFirstBadFile : Contents → ℕ → ℕ → Why → Type 0
+IsFirstBadFile contents file place why =
     ((file ≡ 1) × IsBadConfig contents.config place why)
     ⊎ (((config : Config) × IsConfigIn contents.config config)
     × (((file ≡ 2) × IsBadAdmin contents.admin place why)

@@ -13,7 +13,7 @@ use Rattle.record_file.specs.declared.record.Recorded.{Recorded}
 use Rattle.replay_command.specs.declared.inputs.LoadedInputs.{LoadedInputs}
 use Rattle.command_line.specs.declared.status.Status.{Status}
 use Rattle.command_line.specs.declared.status.Status.TheVariants as status
-use Rattle.replay_command.specs.Inputs.{AreInputs, AreSessionsIn, Contents, Inputs, IsBadAdmin, IsBadSessionAmong, IsBadConfig, IsBadSession, IsConfigIn, IsFirstBad, IsScriptIn, IsSessionIn}
+use Rattle.replay_command.specs.Inputs.{AreInputs, AreSessionsIn, Contents, Inputs, IsBadAdmin, IsBadSessionAmong, IsBadConfig, IsBadSession, IsConfigIn, IsFirstBadFile, IsScriptIn, IsSessionIn}
 use Rattle.command_line.specs.Run.{Took, TookPart}
 
 -- what was read of files, of which something holds, or how the run ends: at the file with this number, where it holds of nothing, or at one
@@ -44,7 +44,7 @@ abbrev pub inputs_of : LoadedInputs → Inputs
 inputs_of i = record { config = i.config; lines = i.lines; records = i.sessions.items }
 
 abbrev pub AreInputsRead : Contents → Result LoadedInputs Status → Type 0
-AreInputsRead contents result = IsRead inputs_of (AreInputs contents) (IsFirstBad contents) result
+AreInputsRead contents result = IsRead inputs_of (AreInputs contents) (IsFirstBadFile contents) result
 
 -- how the run ends where the configuration is refused
 abbrev pub config_status : ConfigFault → Status

@@ -13,7 +13,7 @@ use Rattle.sync_syntax.specs.declared.tree.Program.{Program}
 use Rattle.session_core.specs.declared.look.Look.{Look}
 use Rattle.session_core.specs.Conduct.{AreWithin}
 use Rattle.session_core.specs.Fronts.{RiseBetween, looks_of}
-use Rattle.session_core.specs.Steps.{Step}
+use Rattle.session_core.specs.Steps.{SessionStep}
 use Rattle.write_path.specs.Reads.{IsLaterThanAll}
 use Rattle.session_run.specs.declared.ended.Ended.{Ended}
 use Rattle.session_run.specs.declared.serve.Setup.{Setup}
@@ -77,7 +77,7 @@ FrontsLaw = (setup : Setup) (start final : Moment) (ended : Ended) (results : Li
     → RiseBetween start.lowest (look_fronts ended.looks) final.lowest
 
 abbrev pub WithinLaw : Type 0
-WithinLaw = (start now : Moment) (user : List ℕ) (program : Program) (strict : Bool) (steps : List Step) (h : List Entry) → AreAnswered start user program strict steps now → IsLaterThanAll now.read h
+WithinLaw = (start now : Moment) (user : List ℕ) (program : Program) (strict : Bool) (steps : List SessionStep) (h : List Entry) → AreAnswered start user program strict steps now → IsLaterThanAll now.read h
     → AreWithin (length h) (look_fronts (looks_of steps))
 
 all_rise : FrontsLaw → (history : List Entry) (program : Program) (strict : Bool) (start final : Moment) (records : List Recorded) (runs : List Run) → AreRuns history program strict start records runs final → RiseBetween start.lowest (fronts_of runs) final.lowest

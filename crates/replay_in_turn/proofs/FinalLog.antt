@@ -10,27 +10,27 @@ use Rattle.sg_history.specs.Journal.{journal_text}
 use Rattle.principals.specs.declared.admin_line.AdminLine.{AdminLine}
 use Rattle.record_file.specs.declared.record.Recorded.{Recorded}
 use Rattle.gateway_config.specs.declared.config.Config.{Config}
-use Rattle.write_path.specs.Own.{EndsWith, in_order}
+use Rattle.write_path.specs.Own.{EndsWith, own_in_order}
 use Rattle.write_path.specs.Solo.{Solo}
 use Rattle.replay_in_turn.specs.Replay.{IsReplay}
 use Rattle.replay_in_turn.specs.Sessions.{moment_of}
 use Rattle.replay_in_turn.specs.inner.Shape.{AreSessionsRun, IsReplayBy, IsScriptRun}
 use Rattle.transcripts.specs.Transcript.{runs_text}
 
-in_order_more : (added own : List Waiting) → in_order (added ++ own) ≡ in_order own ++ in_order added
+in_order_more : (added own : List Waiting) → own_in_order (added ++ own) ≡ own_in_order own ++ own_in_order added
 in_order_more added own = ap (λ (es : List Entry). reverse es) (map-append (λ (w : Waiting). w.entry) added own) ∙ reverse-append (map (λ (w : Waiting). w.entry) added) (map (λ (w : Waiting). w.entry) own)
 
-length_in_order : (own : List Waiting) → length (in_order own) ≡ length own
+length_in_order : (own : List Waiting) → length (own_in_order own) ≡ length own
 length_in_order own = length-reverse (map (λ (w : Waiting). w.entry) own) ∙ length-map own (λ (w : Waiting). w.entry)
 
 -- a log that ends with the own entries, and is as many longer than one that has no others, has those that were added behind it
-pub final_log : (log later : List Entry) (own now added : List Waiting) → log ≡ in_order own → now ≡ added ++ own → length later ≡ length log + length added → EndsWith later now → later ≡ log ++ in_order added
+pub final_log : (log later : List Entry) (own now added : List Waiting) → log ≡ own_in_order own → now ≡ added ++ own → length later ≡ length log + length added → EndsWith later now → later ≡ log ++ own_in_order added
 final_log log later own now added all more count ends =
-    let order : in_order now ≡ log ++ in_order added = ap (λ (es : List Waiting). in_order es) more ∙ in_order_more added own ∙ ap (λ (es : List Entry). es ++ in_order added) (sym all) in
+    let order : own_in_order now ≡ log ++ own_in_order added = ap (λ (es : List Waiting). own_in_order es) more ∙ in_order_more added own ∙ ap (λ (es : List Entry). es ++ own_in_order added) (sym all) in
     let size : length later ≡ length ends.0 + (length log + length added) =
-    ap (λ (es : List Entry). length es) ends.1 ∙ length-append ends.0 (in_order now) ∙ ap (λ (n : ℕ). length ends.0 + n) (ap (λ (es : List Entry). length es) order ∙ length-append log (in_order added) ∙ ap (λ (n : ℕ). length log + n) (length_in_order added)) in
+    ap (λ (es : List Entry). length es) ends.1 ∙ length-append ends.0 (own_in_order now) ∙ ap (λ (n : ℕ). length ends.0 + n) (ap (λ (es : List Entry). length es) order ∙ length-append log (own_in_order added) ∙ ap (λ (n : ℕ). length log + n) (length_in_order added)) in
     let none : ends.0 ≡ [] = nil_from_length ends.0 (omega (arith, count, size)) in
-    ends.1 ∙ ap (λ (opened : List Entry). opened ++ in_order now) none ∙ order
+    ends.1 ∙ ap (λ (opened : List Entry). opened ++ own_in_order now) none ∙ order
 
 -- a replay, from what its functions hand on to one another
 pub is_replay : (config : Config) (lines : List AdminLine) (records : List Recorded) (text : List ℕ)

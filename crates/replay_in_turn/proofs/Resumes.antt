@@ -12,10 +12,10 @@ use Rattle.record_file.specs.declared.record.Recorded.{Recorded}
 use Rattle.repl_messages.specs.declared.request.Version.{Version}
 use Rattle.sync_syntax.specs.declared.tree.Program.{Program}
 use Rattle.session_core.specs.declared.event.Event.{Event}
-use Rattle.session_core.specs.Feeds.{AreOffered, RunsFeed, feed_looks, not_offered, rows_at}
+use Rattle.session_core.specs.Feeds.{AreRowsOffered, RunsFeed, feed_looks, not_offered, feed_rows_at}
 use Rattle.session_core.specs.Right.{AreRight}
 use Rattle.session_core.specs.State.{Machine, new_machine}
-use Rattle.session_core.specs.Steps.{Leads, Step, put_by}
+use Rattle.session_core.specs.Steps.{Leads, SessionStep, put_by}
 use Rattle.write_path.specs.Reads.{IsLaterThanAll}
 use Rattle.session_run.specs.declared.ended.Ended.{Ended}
 use Rattle.session_run.specs.declared.serve.Setup.{Setup}
@@ -82,18 +82,18 @@ own_in law history program strict start final recorded run is =
 -- ---- resuming
 
 abbrev pub ResumeLaw : Type 0
-ResumeLaw = (start now : Moment) (h : List Entry) (user : List ℕ) (version : Version) (program : Program) (strict : Bool) (earlier : List Step) (begin : Step) (more : List Step) (after : Machine)
+ResumeLaw = (start now : Moment) (h : List Entry) (user : List ℕ) (version : Version) (program : Program) (strict : Bool) (earlier : List SessionStep) (begin : SessionStep) (more : List SessionStep) (after : Machine)
     → (runs : RunsFeed user version strict earlier begin more after) → AreAnswered start user program strict (more ++ begin ∷ earlier) now → IsLaterThanAll now.read h
-    → (offered : List Row) × AreOffered version (put_by (more ++ begin ∷ [])) offered
-    × (offered ++ not_offered after.feed ≡ rows_at h user runs.asked.since runs.asked.options (feed_looks (more ++ begin ∷ [])))
+    → (offered : List Row) × AreRowsOffered version (put_by (more ++ begin ∷ [])) offered
+    × (offered ++ not_offered after.feed ≡ feed_rows_at h user runs.asked.since runs.asked.options (feed_looks (more ++ begin ∷ [])))
     × ((sent row : Row) → HasRow offered sent → HasRow (feed (all_of h) user runs.asked.since runs.asked.options) row
     → HasRow offered row ⊎ IsAhead (feed (all_of h) user sent.key runs.asked.options) sent.key row)
 
-pub resume_in : ResumeLaw → (history : List Entry) (program : Program) (strict : Bool) (start final : Moment) (recorded : Recorded) (run : Run) (earlier : List Step) (begin : Step) (more later : List Step) (after : Machine)
+pub resume_in : ResumeLaw → (history : List Entry) (program : Program) (strict : Bool) (start final : Moment) (recorded : Recorded) (run : Run) (earlier : List SessionStep) (begin : SessionStep) (more later : List SessionStep) (after : Machine)
     → (is : IsRun history program strict start recorded run final) → steps_of is.served.session.turns ≡ later ++ (more ++ begin ∷ earlier)
     → (runs : RunsFeed recorded.user recorded.version strict earlier begin more after)
-    → (offered : List Row) × AreOffered recorded.version (put_by (more ++ begin ∷ [])) offered
-    × (offered ++ not_offered after.feed ≡ rows_at history recorded.user runs.asked.since runs.asked.options (feed_looks (more ++ begin ∷ [])))
+    → (offered : List Row) × AreRowsOffered recorded.version (put_by (more ++ begin ∷ [])) offered
+    × (offered ++ not_offered after.feed ≡ feed_rows_at history recorded.user runs.asked.since runs.asked.options (feed_looks (more ++ begin ∷ [])))
     × ((sent row : Row) → HasRow offered sent → HasRow (feed (all_of history) recorded.user runs.asked.since runs.asked.options) row
     → HasRow offered row ⊎ IsAhead (feed (all_of history) recorded.user sent.key runs.asked.options) sent.key row)
 resume_in law history program strict start final recorded run earlier begin more later after is split runs =

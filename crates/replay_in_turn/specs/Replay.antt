@@ -8,7 +8,7 @@ use Rattle.principals.specs.declared.admin_line.AdminLine.{AdminLine}
 use Rattle.record_file.specs.declared.record.Recorded.{Recorded}
 use Rattle.gateway_config.specs.declared.config.Config.{Config}
 use Rattle.doc_board.specs.declared.outcome.Outcome.{Outcome}
-use Rattle.write_path.specs.Own.{in_order}
+use Rattle.write_path.specs.Own.{own_in_order}
 use Rattle.session_run.specs.Answered.{Moment}
 use Rattle.session_threads.specs.Opening.{IsOpening}
 use Rattle.replay_in_turn.specs.Script.{AreLinesRun}
@@ -34,5 +34,5 @@ pub record IsReplay (config : Config) (lines : List AdminLine) (records : List R
   pub sessions : AreRuns history.entries (arc_value config.program) (not config.conflicts) start records runs final
   pub added : List Waiting
   pub own : final.own ≡ added ++ start.own
-  pub stored : history.entries ≡ scripted ++ in_order added
+  pub stored : history.entries ≡ scripted ++ own_in_order added
   pub printed : text ≡ transcript outcomes runs history

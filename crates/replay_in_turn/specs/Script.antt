@@ -10,7 +10,7 @@ use Rattle.doc_board.specs.declared.outcome.Outcome.{Outcome}
 use Rattle.doc_board.specs.Boards.{board_of}
 use Rattle.doc_board.specs.Outcomes.{IsByLimits, IsOutcome, bytes_of}
 use Rattle.board_steps.specs.After.{IsBoardAfter}
-use Rattle.session_threads.specs.OwnRevisions.{revision_of}
+use Rattle.session_threads.specs.OwnRevisions.{own_revision}
 use Rattle.session_threads.specs.Opened.{IsCommandRun, alone}
 
 -- the revision is judged by a board of the log before, as the administrator's, and stored where that is the outcome and the board has room for it
@@ -23,7 +23,7 @@ pub record IsWritten (program : Program) (strict : Bool) (before : List Entry) (
 abbrev pub IsLineRun : Program → Bool → List Entry → AdminLine → Outcome → List Entry → Type 0
 IsLineRun program strict before (line.Command c) answer after = IsCommandRun before (entry_of c) answer after
 IsLineRun program strict before (line.Doc doc parent deleted body) answer after =
-    IsWritten program strict before (revision_of doc parent deleted body) answer after
+    IsWritten program strict before (own_revision doc parent deleted body) answer after
 
 -- lines one after another, each with its outcome
 abbrev pub AreLinesRun : Program → Bool → List Entry → List AdminLine → List Outcome → List Entry → Type 0

@@ -12,10 +12,10 @@ ghost use Rattle.sg_history.specs.History.{past};
 ghost use Rattle.feed_rows.specs.Laws.{HasRow, IsAhead, all_of};
 ghost use Rattle.record_file.specs.declared.record.Recorded.{Recorded};
 ghost use Rattle.sync_syntax.specs.declared.tree.Program.{Program};
-ghost use Rattle.session_core.specs.Feeds.{AreOffered, RunsFeed, feed_looks, not_offered, rows_at};
+ghost use Rattle.session_core.specs.Feeds.{AreRowsOffered, RunsFeed, feed_looks, not_offered, feed_rows_at};
 ghost use Rattle.session_core.specs.Right.{AreRight};
 ghost use Rattle.session_core.specs.State.{Machine, new_machine};
-ghost use Rattle.session_core.specs.Steps.{Leads, Step, put_by};
+ghost use Rattle.session_core.specs.Steps.{Leads, SessionStep, put_by};
 ghost use Rattle.session_run.specs.Answered.{Moment};
 ghost use Rattle.session_run.specs.Judged.{AreJudged};
 ghost use Rattle.session_run.specs.Own.{HaveOwnBodies};
@@ -58,15 +58,15 @@ pub fn sessions()
 /// replay's history, from the session's own since key, was offered, or has a key above the sent one and stands in the feed from that.
 pub fn resume()
     ensures { (history : List Entry) (program : Program) (strict : Bool) (start final : Moment)
-        (recorded : Recorded) (run : Run) (earlier : List Step) (begin : Step)
-        (more later : List Step) (after : Machine)
+        (recorded : Recorded) (run : Run) (earlier : List SessionStep) (begin : SessionStep)
+        (more later : List SessionStep) (after : Machine)
         → (is : IsRun history program strict start recorded run final)
         → steps_of is.served.session.turns ≡ later ++ (more ++ begin ∷ earlier)
         → (runs : RunsFeed recorded.user recorded.version strict earlier begin more after)
         → (offered : List Row)
-        × AreOffered recorded.version (put_by (more ++ begin ∷ [])) offered
+        × AreRowsOffered recorded.version (put_by (more ++ begin ∷ [])) offered
         × (offered ++ not_offered after.feed
-        ≡ rows_at history recorded.user runs.asked.since runs.asked.options
+        ≡ feed_rows_at history recorded.user runs.asked.since runs.asked.options
         (feed_looks (more ++ begin ∷ [])))
         × ((sent row : Row) → HasRow offered sent
         → HasRow (feed (all_of history) recorded.user runs.asked.since runs.asked.options) row

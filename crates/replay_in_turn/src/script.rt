@@ -1,7 +1,7 @@
 //! A script, run line by line at a ground.
 
 ghost use Rattle.std.specs.Prelude.{◌≡◌, ◌++◌, false, OnOk};
-ghost use Rattle.principals.specs.Script.{AreLines, IsLine};
+ghost use Rattle.principals.specs.Script.{AreLines, IsScriptLine};
 ghost use Rattle.session_threads.specs.Opened.{HasOwnLog};
 ghost use Rattle.transcripts.specs.Transcript.{outcome_line};
 ghost use Rattle.replay_in_turn.specs.Script.{IsLineRun, IsWritten};
@@ -41,7 +41,7 @@ fn run_line(
     strict: bool,
     line: AdminLine,
 ) -> Outcome
-    requires line { IsLine line }
+    requires line { IsScriptLine line }
     requires own { HasOwnLog ground.old }
     ensures line { IsLineRun program.now strict ground.old.board.log line result
         ground.new.board.log }

@@ -21,7 +21,7 @@ use Rattle.rev_tree.specs.Order.{leaf_cmp, comes_before, sooner, first_leaf, ins
 use Rattle.sg_names.specs.RevId.{rev_cmp}
 use Rattle.rev_tree.specs.Tree.{knows, leaf_at}
 use Rattle.rev_tree.proofs.Sames.{same_is_equal}
-use Rattle.rev_tree.specs.Rising.{is_below_all, rises, first_or, last_node, last_alive, last_where, falling, Limit, is_up_to, is_within}
+use Rattle.rev_tree.specs.Rising.{is_below_all, nodes_rise, option_or, last_node, last_alive, last_where, falling, Limit, is_up_to, is_within}
 use Rattle.rev_tree.proofs.RevOrder.{rev_total, both_equal, tie_is_equal, within_closed, not_below_itself, not_both_less, within_strictly}
 use Rattle.rev_tree.proofs.Rises.{last_has, last_passes}
 use Rattle.rev_tree.proofs.Hanging.{leaves_by}
@@ -179,17 +179,17 @@ before_deleted a x gone e less = rw (gone, e) less
 after_alive : (a x : Node) → a.deleted ≡ true → x.deleted ≡ false → comes_before (leaf_at a) (leaf_at x) ≡ false
 after_alive a x gone e = rw (gone, e) refl
 
-picked : (x b : Node) (gone before : Bool) → gone ≡ before → option_map (λ (n : Node). leaf_at n) (first_or (if not gone then Some x else None) (Some b)) ≡ Some (if before then leaf_at b else leaf_at x)
+picked : (x b : Node) (gone before : Bool) → gone ≡ before → option_map (λ (n : Node). leaf_at n) (option_or (if not gone then Some x else None) (Some b)) ≡ Some (if before then leaf_at b else leaf_at x)
 picked x b true true h = refl
 picked x b true false h = cc
 picked x b false true h = cc
 picked x b false false h = refl
 
-picked_alone : (x : Node) (gone : Bool) → option_map (λ (n : Node). leaf_at n) (first_or (if not gone then Some x else None) (Some x)) ≡ Some (leaf_at x)
+picked_alone : (x : Node) (gone : Bool) → option_map (λ (n : Node). leaf_at n) (option_or (if not gone then Some x else None) (Some x)) ≡ Some (leaf_at x)
 picked_alone x true = refl
 picked_alone x false = refl
 
-best_step : (x : Node) (alive all : Option Node) → ((a : Node) → alive ≡ Some a → (a.deleted ≡ false) × (is_lt (rev_cmp x.rev a.rev) ≡ true)) → (alive ≡ None → (a : Node) → all ≡ Some a → (a.deleted ≡ true) × (is_lt (rev_cmp x.rev a.rev) ≡ true)) → option_map (λ (n : Node). leaf_at n) (first_or (first_or alive (if not x.deleted then Some x else None)) (first_or all (Some x))) ≡ Some (sooner (leaf_at x) (option_map (λ (n : Node). leaf_at n) (first_or alive all)))
+best_step : (x : Node) (alive all : Option Node) → ((a : Node) → alive ≡ Some a → (a.deleted ≡ false) × (is_lt (rev_cmp x.rev a.rev) ≡ true)) → (alive ≡ None → (a : Node) → all ≡ Some a → (a.deleted ≡ true) × (is_lt (rev_cmp x.rev a.rev) ≡ true)) → option_map (λ (n : Node). leaf_at n) (option_or (option_or alive (if not x.deleted then Some x else None)) (option_or all (Some x))) ≡ Some (sooner (leaf_at x) (option_map (λ (n : Node). leaf_at n) (option_or alive all)))
 best_step x (Some a) all living dead = let is = living a refl in rw (before_alive a x is.0 is.1) refl
 best_step x None (Some b) living dead =
     let is = dead refl b refl in
@@ -199,7 +199,7 @@ best_step x None (Some b) living dead =
     ]
 best_step x None None living dead = picked_alone x x.deleted
 
-none_all : (q : Node → Bool) (x : Node) (o : Option Node) → first_or o (if q x then Some x else None) ≡ None → (o ≡ None) × (q x ≡ false)
+none_all : (q : Node → Bool) (x : Node) (o : Option Node) → option_or o (if q x then Some x else None) ≡ None → (o ≡ None) × (q x ≡ false)
 none_all q x (Some m) h = cc
 none_all q x None h = elim (cases_Bool (q x)) [ inl e ↦ let some : Some x ≡ None = rw e at h in cc | inr e ↦ (refl, e) ]
 
@@ -215,10 +215,10 @@ was_deleted : (deleted : Bool) → not (not (true && deleted)) ≡ true → dele
 was_deleted true h = refl
 was_deleted false h = cc
 
-pub best_wins : (xs : List Node) → rises xs ≡ true → option_map (λ (n : Node). leaf_at n) (first_or (last_alive true xs) (last_alive false xs)) ≡ first_leaf (map (λ (n : Node). leaf_at n) xs)
+pub best_wins : (xs : List Node) → nodes_rise xs ≡ true → option_map (λ (n : Node). leaf_at n) (option_or (last_alive true xs) (last_alive false xs)) ≡ first_leaf (map (λ (n : Node). leaf_at n) xs)
 best_wins [] h = refl
 best_wins (x ∷ xs) h =
-    let parts = and_parts (is_below_all x.rev xs) (rises xs) h in
+    let parts = and_parts (is_below_all x.rev xs) (nodes_rise xs) h in
     let alive : Node → Bool = λ n. not (true && n.deleted) in
     let any : Node → Bool = λ n. not (false && n.deleted) in
     best_step x (last_alive true xs) (last_alive false xs)
@@ -240,10 +240,10 @@ below_falling rev (x ∷ xs) h =
     let parts = and_parts (is_lt (rev_cmp rev x.rev)) (is_below_all rev xs) h in
     list_all-append (λ (m : Leaf). is_lt (rev_cmp rev m.rev)) (falling xs) (leaf_at x ∷ []) ∙ and_from _ _ (below_falling rev xs parts.1) (and_from _ _ parts.0 refl)
 
-pub falling_in_order : (xs : List Node) → rises xs ≡ true → falling xs ≡ in_order (map (λ (n : Node). leaf_at n) xs)
+pub falling_in_order : (xs : List Node) → nodes_rise xs ≡ true → falling xs ≡ in_order (map (λ (n : Node). leaf_at n) xs)
 falling_in_order [] h = refl
 falling_in_order (x ∷ xs) h =
-    let parts = and_parts (is_below_all x.rev xs) (rises xs) h in
+    let parts = and_parts (is_below_all x.rev xs) (nodes_rise xs) h in
     sym (ap (insert_leaf (leaf_at x)) (sym (falling_in_order xs parts.1)) ∙ insert_last (leaf_at x) (falling xs) (below_falling x.rev xs parts.0))
 
 -- the leaves of lesser generations
@@ -277,10 +277,10 @@ none_less rev (x ∷ xs) h =
     let past : is_within (record { rev = rev; or_equal = false }) x.rev ≡ false = within_strictly rev x.rev ∙ not_both_less rev x.rev parts.0 in
     rw past (none_less rev xs parts.1)
 
-next_step : (limit : Limit) (x : Node) (xs : List Node) (n : Node) (o : Option Node) → last_where (is_within limit) xs ≡ o → rises (x ∷ xs) ≡ true → first_or o (if is_within limit x.rev then Some x else None) ≡ Some n → ((m : Node) → o ≡ Some m → falling (within limit xs) ≡ leaf_at m ∷ falling (within (record { rev = m.rev; or_equal = false }) xs)) → falling (within limit (x ∷ xs)) ≡ leaf_at n ∷ falling (within (record { rev = n.rev; or_equal = false }) (x ∷ xs))
+next_step : (limit : Limit) (x : Node) (xs : List Node) (n : Node) (o : Option Node) → last_where (is_within limit) xs ≡ o → nodes_rise (x ∷ xs) ≡ true → option_or o (if is_within limit x.rev then Some x else None) ≡ Some n → ((m : Node) → o ≡ Some m → falling (within limit xs) ≡ leaf_at m ∷ falling (within (record { rev = m.rev; or_equal = false }) xs)) → falling (within limit (x ∷ xs)) ≡ leaf_at n ∷ falling (within (record { rev = n.rev; or_equal = false }) (x ∷ xs))
 next_step limit x xs n (Some m) e h is rest =
     let one : m ≡ n = cc in
-    let parts = and_parts (is_below_all x.rev xs) (rises xs) h in
+    let parts = and_parts (is_below_all x.rev xs) (nodes_rise xs) h in
     let some : last_where (is_within limit) xs ≡ Some n = e ∙ ap (λ (k : Node). Some k) one in
     let less : is_lt (rev_cmp x.rev n.rev) ≡ true = last_has (λ (k : Node). is_within limit k.rev) (λ (k : Node). is_lt (rev_cmp x.rev k.rev)) xs n some parts.0 in
     let passes : is_within limit n.rev ≡ true = last_passes (λ (k : Node). is_within limit k.rev) xs n some in
@@ -293,7 +293,7 @@ next_step limit x xs n None e h is rest =
       | inl here ↦
           let some : Some x ≡ Some n = rw here at is in
           let one : x ≡ n = cc in
-          let parts = and_parts (is_below_all x.rev xs) (rises xs) h in
+          let parts = and_parts (is_below_all x.rev xs) (nodes_rise xs) h in
           let none = none_within limit xs e in
           let itself : is_within (record { rev = x.rev; or_equal = false }) x.rev ≡ false = within_strictly x.rev x.rev ∙ not_below_itself x.rev in
           let own : falling (within limit (x ∷ xs)) ≡ leaf_at x ∷ falling (within (record { rev = x.rev; or_equal = false }) (x ∷ xs)) = rw (here, none) (rw (itself, none_less x.rev xs parts.0) refl) in
@@ -301,10 +301,10 @@ next_step limit x xs n None e h is rest =
       | inr here ↦ let some : None ≡ Some n = rw here at is in cc
     ]
 
-pub next_leaf : (limit : Limit) (xs : List Node) (n : Node) → rises xs ≡ true → last_where (is_within limit) xs ≡ Some n → falling (within limit xs) ≡ leaf_at n ∷ falling (within (record { rev = n.rev; or_equal = false }) xs)
+pub next_leaf : (limit : Limit) (xs : List Node) (n : Node) → nodes_rise xs ≡ true → last_where (is_within limit) xs ≡ Some n → falling (within limit xs) ≡ leaf_at n ∷ falling (within (record { rev = n.rev; or_equal = false }) xs)
 next_leaf limit [] n h is = cc
 next_leaf limit (x ∷ xs) n h is =
-    next_step limit x xs n (last_where (is_within limit) xs) refl h is (λ m e. next_leaf limit xs m (and_parts (is_below_all x.rev xs) (rises xs) h).1 e)
+    next_step limit x xs n (last_where (is_within limit) xs) refl h is (λ m e. next_leaf limit xs m (and_parts (is_below_all x.rev xs) (nodes_rise xs) h).1 e)
 
 past_none : (digest : List ℕ) → is_up_to false (slice_cmp nat_cmp digest []) ≡ false
 past_none [] = refl
@@ -333,7 +333,7 @@ revs_next n rest revs all left most before after so_far =
     let old : revs ++ map (λ (l : Leaf). l.rev) (take (suc left) (n ∷ rest)) ≡ all = rw before at so_far in
     rw after (append_assoc revs (n.rev ∷ []) (map (λ (l : Leaf). l.rev) (take left rest)) ∙ old)
 
-pub revs_step : (limit : Limit) (xs : List Node) (n : Node) (revs all : List RevId) (most : ℕ) → rises xs ≡ true → last_where (is_within limit) xs ≡ Some n → length revs < most → revs ++ map (λ (l : Leaf). l.rev) (take (most - length revs) (falling (within limit xs))) ≡ all → (revs ++ n.rev ∷ []) ++ map (λ (l : Leaf). l.rev) (take (most - length (revs ++ n.rev ∷ [])) (falling (within (record { rev = n.rev; or_equal = false }) xs))) ≡ all
+pub revs_step : (limit : Limit) (xs : List Node) (n : Node) (revs all : List RevId) (most : ℕ) → nodes_rise xs ≡ true → last_where (is_within limit) xs ≡ Some n → length revs < most → revs ++ map (λ (l : Leaf). l.rev) (take (most - length revs) (falling (within limit xs))) ≡ all → (revs ++ n.rev ∷ []) ++ map (λ (l : Leaf). l.rev) (take (most - length (revs ++ n.rev ∷ [])) (falling (within (record { rev = n.rev; or_equal = false }) xs))) ≡ all
 revs_step limit xs n revs all most rising is room so_far =
     let left : ℕ = most - length (revs ++ n.rev ∷ []) in
     let more : most - length revs ≡ suc left = omega (arith, length-append revs (n.rev ∷ [])) in

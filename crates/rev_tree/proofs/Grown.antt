@@ -7,7 +7,7 @@ use Rattle.sg_names.specs.declared.rev_id.RevId.{RevId}
 use Rattle.sg_names.specs.RevId.{rev_cmp}
 use Rattle.rev_tree.specs.declared.tree.Node.{Node}
 use Rattle.rev_tree.specs.Order.{first_leaf}
-use Rattle.rev_tree.specs.Rising.{is_below_all, rises}
+use Rattle.rev_tree.specs.Rising.{is_below_all, nodes_rise}
 use Rattle.rev_tree.specs.Tree.{knows, is_this, is_parent, leaf_at, winner_of}
 use Rattle.rev_tree.specs.Shape.{stands_on, is_tree, tips}
 use Rattle.rev_tree.proofs.Sames.{same_is_equal}
@@ -19,10 +19,10 @@ record Greatest (nodes : List Node) : Type 0 where
   above : list_all (λ m. not (is_lt (rev_cmp node.rev m.rev))) nodes ≡ true
   among : (p : Node → Bool) → list_all p nodes ≡ true → p node ≡ true
 
-greatest : (n : Node) (more : List Node) → rises (n ∷ more) ≡ true → Greatest (n ∷ more)
+greatest : (n : Node) (more : List Node) → nodes_rise (n ∷ more) ≡ true → Greatest (n ∷ more)
 greatest n [] h = record { node = n; above = and_from _ _ (not_from_false _ (not_below_itself n.rev)) refl; among = λ p all. (and_parts (p n) true all).0 }
 greatest n (m ∷ more) h =
-    let parts = and_parts (is_below_all n.rev (m ∷ more)) (rises (m ∷ more)) h in
+    let parts = and_parts (is_below_all n.rev (m ∷ more)) (nodes_rise (m ∷ more)) h in
     let rest = greatest m more parts.1 in
     let less : is_lt (rev_cmp n.rev rest.node.rev) ≡ true = rest.among (λ (k : Node). is_lt (rev_cmp n.rev k.rev)) parts.0 in
     record { node = rest.node; above = and_from _ _ (not_from_false _ (not_both_less n.rev rest.node.rev less)) rest.above; among = λ p all. rest.among p (and_parts (p n) (list_all p (m ∷ more)) all).1 }
@@ -58,7 +58,7 @@ pub no_winner : (tree : List Node) → is_tree tree ≡ true → winner_of tree 
 no_winner [] is h = refl
 no_winner (n ∷ more) is h =
     let tree : List Node = n ∷ more in
-    let parts = and_parts (rises tree) (list_all (λ (m : Node). stands_on tree m.rev m.parent) tree) is in
+    let parts = and_parts (nodes_rise tree) (list_all (λ (m : Node). stands_on tree m.rev m.parent) tree) is in
     let none : tips tree ≡ [] = no_first (tips tree) h in
     let top = greatest n more parts.0 in
     absurd (child_greater tree tree top.node.rev parts.1 (top.among (λ (m : Node). is_parent tree m.rev) (all_parents (λ r. is_parent tree r) tree none)) top.above)

@@ -10,7 +10,7 @@ use Rattle.sg_names.specs.declared.rev_id.RevId.{RevId}
 use Rattle.sg_names.specs.RevId.{rev_cmp, same_rev}
 use Rattle.rev_tree.specs.declared.leaf.Leaf.{Leaf}
 use Rattle.rev_tree.specs.declared.tree.Node.{Node}
-use Rattle.rev_tree.specs.Rising.{is_below_all, rises, insert_node}
+use Rattle.rev_tree.specs.Rising.{is_below_all, nodes_rise, insert_node}
 use Rattle.rev_tree.specs.Tree.{knows, is_this, is_parent, leaf_at}
 use Rattle.rev_tree.specs.Extension.{Recorded, falls, added, first_of, first_known, node_on, with_nodes, with_write}
 use Rattle.rev_tree.specs.Shape.{stands_on, is_tree, tips, without_this}
@@ -88,7 +88,7 @@ unknown_with tree x ancestors h unknown = knows_with (added tree ancestors) tree
 
 -- it rises
 
-pub added_rises : (tree : List Node) (x : RevId) (ancestors : List RevId) → falls (x ∷ ancestors) ≡ true → rises tree ≡ true → rises (with_nodes (added tree ancestors) tree) ≡ true
+pub added_rises : (tree : List Node) (x : RevId) (ancestors : List RevId) → falls (x ∷ ancestors) ≡ true → nodes_rise tree ≡ true → nodes_rise (with_nodes (added tree ancestors) tree) ≡ true
 added_rises tree x [] h rising = rising
 added_rises tree x (a ∷ more) h rising =
     let below : falls (a ∷ more) ≡ true = (and_parts (nat_lt a.generation x.generation) (falls (a ∷ more)) h).1 in
@@ -97,7 +97,7 @@ added_rises tree x (a ∷ more) h rising =
       | inr e ↦ rw e (rises_insert (record { rev = a; parent = first_of more; deleted = false }) (with_nodes (added tree more) tree) (added_rises tree a more below rising) (unknown_with tree a more below e))
     ]
 
-pub write_rises : (tree : List Node) (w : Recorded) → falls (w.rev ∷ w.ancestors) ≡ true → knows tree w.rev ≡ false → rises tree ≡ true → rises (with_write tree w) ≡ true
+pub write_rises : (tree : List Node) (w : Recorded) → falls (w.rev ∷ w.ancestors) ≡ true → knows tree w.rev ≡ false → nodes_rise tree ≡ true → nodes_rise (with_write tree w) ≡ true
 write_rises tree w h unknown rising =
     rises_insert (node_on w) (with_nodes (added tree w.ancestors) tree) (added_rises tree w.rev w.ancestors h rising) (unknown_with tree w.rev w.ancestors h unknown)
 
@@ -133,14 +133,14 @@ known_behind xs tree rev h = list_any-append (λ (n : Node). same_rev n.rev rev)
 -- in a tree that knows all of them the write's nodes stand on their parents
 all_stand : (tree all : List Node) (w : Recorded) → falls (w.rev ∷ w.ancestors) ≡ true → is_tree tree ≡ true → ((rev : RevId) → knows (added tree w.ancestors ++ tree) rev ≡ true → knows all rev ≡ true) → list_all (λ (n : Node). stands_on all n.rev n.parent) ((node_on w ∷ added tree w.ancestors) ++ tree) ≡ true
 all_stand tree all w h is k =
-    let old = (and_parts (rises tree) (list_all (λ (n : Node). stands_on tree n.rev n.parent) tree) is).1 in
+    let old = (and_parts (nodes_rise tree) (list_all (λ (n : Node). stands_on tree n.rev n.parent) tree) is).1 in
     list_all-append (λ (n : Node). stands_on all n.rev n.parent) (node_on w ∷ added tree w.ancestors) tree ∙
     and_from _ _ (hung tree all w.rev w.deleted w.ancestors h k) (all_stand_still tree all (λ rev j. k rev (known_behind (added tree w.ancestors) tree rev j)) tree old)
 
 -- the tree with the write is a tree
 pub write_tree : (tree : List Node) (w : Recorded) → falls (w.rev ∷ w.ancestors) ≡ true → knows tree w.rev ≡ false → is_tree tree ≡ true → is_tree (with_write tree w) ≡ true
 write_tree tree w h unknown is =
-    let rising = (and_parts (rises tree) (list_all (λ (n : Node). stands_on tree n.rev n.parent) tree) is).0 in
+    let rising = (and_parts (nodes_rise tree) (list_all (λ (n : Node). stands_on tree n.rev n.parent) tree) is).0 in
     let known : (rev : RevId) → knows (added tree w.ancestors ++ tree) rev ≡ true → knows (with_write tree w) rev ≡ true = λ rev k. knows_with (node_on w ∷ added tree w.ancestors) tree rev ∙ or_right (same_rev w.rev rev) (knows (added tree w.ancestors ++ tree) rev) k in
     and_from _ _ (write_rises tree w h unknown rising) (all_with (λ (n : Node). stands_on (with_write tree w) n.rev n.parent) (node_on w ∷ added tree w.ancestors) tree ∙ all_stand tree (with_write tree w) w h is known)
 
@@ -202,17 +202,17 @@ below_filter rev p (x ∷ xs) h =
     let parts = and_parts (is_lt (rev_cmp rev x.rev)) (is_below_all rev xs) h in
     elim (cases_Bool (p x)) [ inl e ↦ rw e (and_from _ _ parts.0 (below_filter rev p xs parts.1)) | inr e ↦ rw e (below_filter rev p xs parts.1) ]
 
-pub rises_filter : (p : Node → Bool) (xs : List Node) → rises xs ≡ true → rises (filter p xs) ≡ true
+pub rises_filter : (p : Node → Bool) (xs : List Node) → nodes_rise xs ≡ true → nodes_rise (filter p xs) ≡ true
 rises_filter p [] h = refl
 rises_filter p (x ∷ xs) h =
-    let parts = and_parts (is_below_all x.rev xs) (rises xs) h in
+    let parts = and_parts (is_below_all x.rev xs) (nodes_rise xs) h in
     elim (cases_Bool (p x)) [ inl e ↦ rw e (and_from _ _ (below_filter x.rev p xs parts.0) (rises_filter p xs parts.1)) | inr e ↦ rw e (rises_filter p xs parts.1) ]
 
 -- a node that passes is put among those that pass
-shown_insert : (p : Node → Bool) (n : Node) (xs : List Node) → rises xs ≡ true → knows xs n.rev ≡ false → p n ≡ true → filter p (insert_node n xs) ≡ insert_node n (filter p xs)
+shown_insert : (p : Node → Bool) (n : Node) (xs : List Node) → nodes_rise xs ≡ true → knows xs n.rev ≡ false → p n ≡ true → filter p (insert_node n xs) ≡ insert_node n (filter p xs)
 shown_insert p n [] rising unknown h = rw h refl
 shown_insert p n (x ∷ xs) rising unknown h =
-    let parts = and_parts (is_below_all x.rev xs) (rises xs) rising in
+    let parts = and_parts (is_below_all x.rev xs) (nodes_rise xs) rising in
     let differs = or_false (same_rev x.rev n.rev) (knows xs n.rev) unknown in
     elim (cases_Bool (is_lt (rev_cmp x.rev n.rev))) [
       | inl e ↦
@@ -256,7 +256,7 @@ nodes_without new old gone (n ∷ ns) h =
 -- the nodes of the leaves with a write: its own, and those before without the first known ancestor
 pub write_tips : (tree : List Node) (w : Recorded) → falls (w.rev ∷ w.ancestors) ≡ true → knows tree w.rev ≡ false → is_tree tree ≡ true → tips (with_write tree w) ≡ insert_node (node_on w) (without_this (first_known tree w.ancestors) (tips tree))
 write_tips tree w h unknown is =
-    let rising = (and_parts (rises tree) (list_all (λ (n : Node). stands_on tree n.rev n.parent) tree) is).0 in
+    let rising = (and_parts (nodes_rise tree) (list_all (λ (n : Node). stands_on tree n.rev n.parent) tree) is).0 in
     let middle = with_nodes (added tree w.ancestors) tree in
     let parent : RevId → Bool = λ rev. is_parent (with_write tree w) rev in
     let after : (rev : RevId) → parent rev ≡ parent_after tree w.ancestors rev = λ rev. any_with (λ (n : Node). is_this n.parent rev) (node_on w ∷ added tree w.ancestors) tree in

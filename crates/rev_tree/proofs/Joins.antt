@@ -6,7 +6,7 @@ use Rattle.std.proofs.lemmas.Bool.{and_parts, and_from}
 use Rattle.std.proofs.lemmas.List.{take_more}
 use Rattle.sg_names.specs.declared.rev_id.RevId.{RevId}
 use Rattle.rev_tree.specs.declared.tree.Node.{Node}
-use Rattle.rev_tree.specs.Rising.{rises, starts}
+use Rattle.rev_tree.specs.Rising.{nodes_rise, starts}
 use Rattle.rev_tree.specs.inner.Parts.{joined, are_sound, is_row, AreParts, IsHead}
 
 and_assoc : (x y z : Bool) → (x && (y && z)) ≡ ((x && y) && z)
@@ -90,7 +90,7 @@ three_hold nodes sound i0 i1 i2 i3 a b c e n1 n2 n3 s1 s2 s3 sa sb sc =
     let t3 : are_sound sound i3 ≡ true = s3 ∙ rw (t2, sc) refl in
     record { hold = n3 ∙ rw second (append_assoc (joined nodes a) (joined nodes b) (joined nodes c)); are_all = t3 }
 
-pub row_from : {X Z : Type 0} (nodes : X → List Node) (sound : X → Bool) (parts : List (Arc X Z)) → 0 < length parts → are_sound sound parts ≡ true → rises (joined nodes parts) ≡ true → is_row nodes sound parts ≡ true
+pub row_from : {X Z : Type 0} (nodes : X → List Node) (sound : X → Bool) (parts : List (Arc X Z)) → 0 < length parts → are_sound sound parts ≡ true → nodes_rise (joined nodes parts) ≡ true → is_row nodes sound parts ≡ true
 row_from nodes sound [] some s r = absurd (omega arith)
 row_from nodes sound (x ∷ xs) some s r = and_from _ _ s r
 
@@ -98,11 +98,11 @@ row_from nodes sound (x ∷ xs) some s r = and_from _ _ s r
 pub record IsRow {X Z : Type 0} (nodes : X → List Node) (sound : X → Bool) (parts : List (Arc X Z)) : Type 0 where
   pub some : 0 < length parts
   pub are_all : are_sound sound parts ≡ true
-  pub rising : rises (joined nodes parts) ≡ true
+  pub rising : nodes_rise (joined nodes parts) ≡ true
 
 pub row_is : {X Z : Type 0} (nodes : X → List Node) (sound : X → Bool) (parts : List (Arc X Z)) → is_row nodes sound parts ≡ true → IsRow nodes sound parts
 row_is nodes sound [] h = cc
-row_is nodes sound (x ∷ xs) h = let parts = and_parts (are_sound sound (x ∷ xs)) (rises (joined nodes (x ∷ xs))) h in record { some = omega arith; are_all = parts.0; rising = parts.1 }
+row_is nodes sound (x ∷ xs) h = let parts = and_parts (are_sound sound (x ∷ xs)) (nodes_rise (joined nodes (x ∷ xs))) h in record { some = omega arith; are_all = parts.0; rising = parts.1 }
 
 -- two parts
 pub two_hold : {X Z : Type 0} (nodes : X → List Node) (sound : X → Bool) (rows : List (Arc X Z)) (a b : Arc X Z) (one two all : List Node) → rows ≡ a ∷ b ∷ [] → nodes (arc_value a) ≡ one → nodes (arc_value b) ≡ two → sound (arc_value a) ≡ true → sound (arc_value b) ≡ true → one ++ two ≡ all → AreParts nodes sound rows all

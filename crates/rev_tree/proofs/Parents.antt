@@ -9,7 +9,7 @@ use Rattle.rev_tree.specs.Tree.{knows, is_this, has_pair, parent_of}
 use Rattle.rev_tree.specs.Extension.{Recorded}
 use Rattle.rev_tree.specs.Writes.{has_pair_in, tree_of, AreAccepted}
 use Rattle.std.specs.Ordering.{is_lt}
-use Rattle.rev_tree.specs.Rising.{is_below_all, rises}
+use Rattle.rev_tree.specs.Rising.{is_below_all, nodes_rise}
 use Rattle.rev_tree.proofs.Sames.{same_is_equal, same_itself}
 use Rattle.rev_tree.proofs.RevOrder.{less_differs}
 use Rattle.rev_tree.proofs.OfWrites.{of_writes_rises, same_pairs}
@@ -46,7 +46,7 @@ below_differs a rev (x ∷ xs) h known =
       | inr k ↦ below_differs a rev xs parts.1 k
     ]
 
-of_pair : (tree : List Node) (rev parent : RevId) → rises tree ≡ true → has_pair tree rev parent ≡ true → parent_of tree rev ≡ Some parent
+of_pair : (tree : List Node) (rev parent : RevId) → nodes_rise tree ≡ true → has_pair tree rev parent ≡ true → parent_of tree rev ≡ Some parent
 of_pair [] rev parent rising h = cc
 of_pair (n ∷ older) rev parent rising h =
     elim (or_cases (same_rev n.rev rev && is_this n.parent parent) (has_pair older rev parent) h) [
@@ -54,7 +54,7 @@ of_pair (n ∷ older) rev parent rising h =
           let parts = and_parts (same_rev n.rev rev) (is_this n.parent parent) a in
           rw parts.0 (this_is n.parent parent parts.1)
       | inr o ↦
-          let parts = and_parts (is_below_all n.rev older) (rises older) rising in
+          let parts = and_parts (is_below_all n.rev older) (nodes_rise older) rising in
           let differs : same_rev n.rev rev ≡ false = below_differs n.rev rev older parts.0 (pair_known older rev parent o) in
           rw differs (of_pair older rev parent parts.1 o)
     ]

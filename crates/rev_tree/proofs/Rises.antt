@@ -10,7 +10,7 @@ use Rattle.sg_names.specs.RevId.{rev_cmp, same_rev}
 use Rattle.rev_tree.specs.declared.leaf.Leaf.{Leaf}
 use Rattle.rev_tree.specs.declared.tree.Node.{Node}
 use Rattle.rev_tree.specs.Tree.{knows, parent_of}
-use Rattle.rev_tree.specs.Rising.{is_below_all, rises, is_up_to, is_within, insert_node, without, node_of, if_of, first_or, last_node, last_where, falling, starts}
+use Rattle.rev_tree.specs.Rising.{is_below_all, nodes_rise, is_up_to, is_within, insert_node, without, node_of, if_of, option_or, last_node, last_where, falling, starts}
 use Rattle.rev_tree.proofs.RevOrder.{Closed, lt_trans, less_differs, greater_differs, less_or_greater, within_less, past_greater}
 
 pub below_right : (rev : RevId) (xs ys : List Node) → is_below_all rev (xs ++ ys) ≡ true → is_below_all rev ys ≡ true
@@ -23,14 +23,14 @@ below_left rev (x ∷ xs) ys h =
     let parts = and_parts (is_lt (rev_cmp rev x.rev)) (is_below_all rev (xs ++ ys)) h in
     and_from _ _ parts.0 (below_left rev xs ys parts.1)
 
-pub rises_right : (xs ys : List Node) → rises (xs ++ ys) ≡ true → rises ys ≡ true
+pub rises_right : (xs ys : List Node) → nodes_rise (xs ++ ys) ≡ true → nodes_rise ys ≡ true
 rises_right [] ys h = h
-rises_right (x ∷ xs) ys h = rises_right xs ys (and_parts (is_below_all x.rev (xs ++ ys)) (rises (xs ++ ys)) h).1
+rises_right (x ∷ xs) ys h = rises_right xs ys (and_parts (is_below_all x.rev (xs ++ ys)) (nodes_rise (xs ++ ys)) h).1
 
-pub rises_left : (xs ys : List Node) → rises (xs ++ ys) ≡ true → rises xs ≡ true
+pub rises_left : (xs ys : List Node) → nodes_rise (xs ++ ys) ≡ true → nodes_rise xs ≡ true
 rises_left [] ys h = refl
 rises_left (x ∷ xs) ys h =
-    let parts = and_parts (is_below_all x.rev (xs ++ ys)) (rises (xs ++ ys)) h in
+    let parts = and_parts (is_below_all x.rev (xs ++ ys)) (nodes_rise (xs ++ ys)) h in
     and_from _ _ (below_left x.rev xs ys parts.0) (rises_left xs ys parts.1)
 
 -- a lesser revision is below all too
@@ -40,7 +40,7 @@ below_lesser a b (x ∷ xs) h all =
     let parts = and_parts (is_lt (rev_cmp b x.rev)) (is_below_all b xs) all in
     and_from _ _ (lt_trans a b x.rev h parts.0) (below_lesser a b xs h parts.1)
 
-first_or_kept : (one two : Option Node) (n : Node) → one ≡ Some n → first_or one two ≡ Some n
+first_or_kept : (one two : Option Node) (n : Node) → one ≡ Some n → option_or one two ≡ Some n
 first_or_kept None two n h = cc
 first_or_kept (Some m) two n h = h
 
@@ -65,10 +65,10 @@ module _ (p : RevId → Bool) (closed : Closed p) where
       rw (all_fail a xs parts.1 fails, here) refl
 
   -- where the first node does not pass none does
-  pub none_pass : (xs : List Node) → rises xs ≡ true → starts p xs ≡ false → last_where p xs ≡ None
+  pub none_pass : (xs : List Node) → nodes_rise xs ≡ true → starts p xs ≡ false → last_where p xs ≡ None
   none_pass [] h fails = refl
   none_pass (x ∷ xs) h fails =
-      let parts = and_parts (is_below_all x.rev xs) (rises xs) h in
+      let parts = and_parts (is_below_all x.rev xs) (nodes_rise xs) h in
       rw (all_fail x.rev xs parts.0 fails, fails) refl
 
   some_last : (x : Node) (xs : List Node) → p x.rev ≡ true → (n : Node) × (last_where p (x ∷ xs) ≡ Some n)
@@ -79,10 +79,10 @@ module _ (p : RevId → Bool) (closed : Closed p) where
       go (Some n) e = (n, rw e refl)
 
   -- the last node that passes is in the last part that begins with one
-  pub found_in : (before part after : List Node) → rises (before ++ (part ++ after)) ≡ true → starts p (part ++ after) ≡ true → starts p after ≡ false → last_where p part ≡ last_where p (before ++ (part ++ after))
+  pub found_in : (before part after : List Node) → nodes_rise (before ++ (part ++ after)) ≡ true → starts p (part ++ after) ≡ true → starts p after ≡ false → last_where p part ≡ last_where p (before ++ (part ++ after))
   found_in before [] after h first next = cc
   found_in before (x ∷ xs) after h first next =
-      let rising : rises (x ∷ (xs ++ after)) ≡ true = rises_right before (x ∷ (xs ++ after)) h in
+      let rising : nodes_rise (x ∷ (xs ++ after)) ≡ true = rises_right before (x ∷ (xs ++ after)) h in
       let none = none_pass after (rises_right (x ∷ xs) after rising) next in
       let some = some_last x xs first in
       let whole : last_where p (x ∷ (xs ++ after)) ≡ last_where p (x ∷ xs) = last_past (λ (n : Node). p n.rev) (x ∷ xs) after none in
@@ -91,10 +91,10 @@ module _ (p : RevId → Bool) (closed : Closed p) where
 -- putting a node
 
 -- before a greater node a lesser one's place is not left of it
-pub insert_front : (n : Node) (before : List Node) (m : Node) (after : List Node) → rises (before ++ m ∷ after) ≡ true → is_lt (rev_cmp m.rev n.rev) ≡ true → insert_node n (before ++ m ∷ after) ≡ before ++ insert_node n (m ∷ after)
+pub insert_front : (n : Node) (before : List Node) (m : Node) (after : List Node) → nodes_rise (before ++ m ∷ after) ≡ true → is_lt (rev_cmp m.rev n.rev) ≡ true → insert_node n (before ++ m ∷ after) ≡ before ++ insert_node n (m ∷ after)
 insert_front n [] m after h less = refl
 insert_front n (x ∷ before) m after h less =
-    let parts = and_parts (is_below_all x.rev (before ++ m ∷ after)) (rises (before ++ m ∷ after)) h in
+    let parts = and_parts (is_below_all x.rev (before ++ m ∷ after)) (nodes_rise (before ++ m ∷ after)) h in
     let tail = below_right x.rev before (m ∷ after) parts.0 in
     let lower = (and_parts (is_lt (rev_cmp x.rev m.rev)) (is_below_all x.rev after) tail).0 in
     let here : is_lt (rev_cmp x.rev n.rev) ≡ true = lt_trans x.rev m.rev n.rev lower less in
@@ -111,7 +111,7 @@ insert_past n (x ∷ xs) after h =
     ]
 
 -- a node put into the part where its revision falls is put into all
-pub put_in_part : (n : Node) (before part after : List Node) → rises (before ++ (part ++ after)) ≡ true → starts (λ rev. is_lt (rev_cmp rev n.rev)) (part ++ after) ≡ true → starts (λ rev. is_lt (rev_cmp rev n.rev)) after ≡ false → before ++ (insert_node n part ++ after) ≡ insert_node n (before ++ (part ++ after))
+pub put_in_part : (n : Node) (before part after : List Node) → nodes_rise (before ++ (part ++ after)) ≡ true → starts (λ rev. is_lt (rev_cmp rev n.rev)) (part ++ after) ≡ true → starts (λ rev. is_lt (rev_cmp rev n.rev)) after ≡ false → before ++ (insert_node n part ++ after) ≡ insert_node n (before ++ (part ++ after))
 put_in_part n before [] after h first next = cc
 put_in_part n before (x ∷ xs) after h first next =
     sym (insert_front n before x (xs ++ after) h first ∙ ap (λ (ns : List Node). before ++ ns) (insert_past n (x ∷ xs) after next))
@@ -135,10 +135,10 @@ pub or_false : (a b : Bool) → (a || b) ≡ false → (a ≡ false) × (b ≡ f
 or_false true b h = cc
 or_false false b h = (refl, h)
 
-pub rises_insert : (n : Node) (xs : List Node) → rises xs ≡ true → knows xs n.rev ≡ false → rises (insert_node n xs) ≡ true
+pub rises_insert : (n : Node) (xs : List Node) → nodes_rise xs ≡ true → knows xs n.rev ≡ false → nodes_rise (insert_node n xs) ≡ true
 rises_insert n [] h unknown = refl
 rises_insert n (x ∷ xs) h unknown =
-    let parts = and_parts (is_below_all x.rev xs) (rises xs) h in
+    let parts = and_parts (is_below_all x.rev xs) (nodes_rise xs) h in
     let differs = or_false (same_rev x.rev n.rev) (knows xs n.rev) unknown in
     elim (cases_Bool (is_lt (rev_cmp x.rev n.rev))) [
       | inl e ↦ rw e (and_from _ _ (below_insert x.rev n xs e parts.0) (rises_insert n xs parts.1 differs.1))
@@ -156,21 +156,21 @@ below_stay rev (x ∷ xs) h =
     let here : same_rev rev x.rev ≡ false = less_differs rev x.rev parts.0 in
     rw here (ap (λ (ns : List Node). x ∷ ns) (below_stay rev xs parts.1))
 
-after_stay : (rev : RevId) (xs : List Node) → rises xs ≡ true → starts (λ r. is_up_to true (rev_cmp r rev)) xs ≡ false → without rev xs ≡ xs
+after_stay : (rev : RevId) (xs : List Node) → nodes_rise xs ≡ true → starts (λ r. is_up_to true (rev_cmp r rev)) xs ≡ false → without rev xs ≡ xs
 after_stay rev [] h past = refl
 after_stay rev (x ∷ xs) h past =
-    let parts = and_parts (is_below_all x.rev xs) (rises xs) h in
+    let parts = and_parts (is_below_all x.rev xs) (nodes_rise xs) h in
     let less : is_lt (rev_cmp rev x.rev) ≡ true = past_greater x.rev rev past in
     below_stay rev (x ∷ xs) (and_from _ _ less (below_lesser rev x.rev xs less parts.0))
 
 -- where the first node is greater nothing is taken out
-pub none_taken : (rev : RevId) (xs : List Node) → rises xs ≡ true → starts (λ r. is_within (record { rev = rev; or_equal = true }) r) xs ≡ false → without rev xs ≡ xs
+pub none_taken : (rev : RevId) (xs : List Node) → nodes_rise xs ≡ true → starts (λ r. is_within (record { rev = rev; or_equal = true }) r) xs ≡ false → without rev xs ≡ xs
 none_taken rev xs h past = after_stay rev xs h past
 
-before_stay : (rev : RevId) (before : List Node) (m : Node) (after : List Node) → rises (before ++ m ∷ after) ≡ true → is_up_to true (rev_cmp m.rev rev) ≡ true → without rev before ≡ before
+before_stay : (rev : RevId) (before : List Node) (m : Node) (after : List Node) → nodes_rise (before ++ m ∷ after) ≡ true → is_up_to true (rev_cmp m.rev rev) ≡ true → without rev before ≡ before
 before_stay rev [] m after h up = refl
 before_stay rev (x ∷ before) m after h up =
-    let parts = and_parts (is_below_all x.rev (before ++ m ∷ after)) (rises (before ++ m ∷ after)) h in
+    let parts = and_parts (is_below_all x.rev (before ++ m ∷ after)) (nodes_rise (before ++ m ∷ after)) h in
     let tail = below_right x.rev before (m ∷ after) parts.0 in
     let lower = (and_parts (is_lt (rev_cmp x.rev m.rev)) (is_below_all x.rev after) tail).0 in
     let less : is_lt (rev_cmp x.rev rev) ≡ true = within_less (record { rev = rev; or_equal = true }) x.rev m.rev lower up in
@@ -178,11 +178,11 @@ before_stay rev (x ∷ before) m after h up =
     rw here (ap (λ (ns : List Node). x ∷ ns) (before_stay rev before m after parts.1 up))
 
 -- a node taken out of the part where its revision falls is taken out of all
-pub take_from_part : (rev : RevId) (before part after : List Node) → rises (before ++ (part ++ after)) ≡ true → starts (λ r. is_within (record { rev = rev; or_equal = true }) r) (part ++ after) ≡ true → starts (λ r. is_within (record { rev = rev; or_equal = true }) r) after ≡ false → before ++ (without rev part ++ after) ≡ without rev (before ++ (part ++ after))
+pub take_from_part : (rev : RevId) (before part after : List Node) → nodes_rise (before ++ (part ++ after)) ≡ true → starts (λ r. is_within (record { rev = rev; or_equal = true }) r) (part ++ after) ≡ true → starts (λ r. is_within (record { rev = rev; or_equal = true }) r) after ≡ false → before ++ (without rev part ++ after) ≡ without rev (before ++ (part ++ after))
 take_from_part rev before [] after h first next = cc
 take_from_part rev before (x ∷ xs) after h first next =
     let keeps : Node → Bool = λ n. not (same_rev rev n.rev) in
-    let rising : rises (x ∷ (xs ++ after)) ≡ true = rises_right before (x ∷ (xs ++ after)) h in
+    let rising : nodes_rise (x ∷ (xs ++ after)) ≡ true = rises_right before (x ∷ (xs ++ after)) h in
     let front : without rev before ≡ before = before_stay rev before x (xs ++ after) h first in
     let back : without rev after ≡ after = after_stay rev after (rises_right (x ∷ xs) after rising) next in
     let inner : without rev ((x ∷ xs) ++ after) ≡ without rev (x ∷ xs) ++ after = filter-append keeps (x ∷ xs) after ∙ ap (λ (ns : List Node). without rev (x ∷ xs) ++ ns) back in
@@ -197,10 +197,10 @@ below_without a rev (x ∷ xs) h =
       | inr e ↦ rw e (and_from _ _ parts.0 (below_without a rev xs parts.1))
     ]
 
-pub rises_without : (rev : RevId) (xs : List Node) → rises xs ≡ true → rises (without rev xs) ≡ true
+pub rises_without : (rev : RevId) (xs : List Node) → nodes_rise xs ≡ true → nodes_rise (without rev xs) ≡ true
 rises_without rev [] h = refl
 rises_without rev (x ∷ xs) h =
-    let parts = and_parts (is_below_all x.rev xs) (rises xs) h in
+    let parts = and_parts (is_below_all x.rev xs) (nodes_rise xs) h in
     elim (cases_Bool (same_rev rev x.rev)) [
       | inl e ↦ rw e (rises_without rev xs parts.1)
       | inr e ↦ rw e (and_from _ _ (below_without x.rev rev xs parts.0) (rises_without rev xs parts.1))
@@ -217,7 +217,7 @@ knows_insert n (x ∷ xs) rev =
 
 -- the node of a revision is the last one up to it, if that one is of it
 
-has_step : (q r : Node → Bool) (x : Node) (o : Option Node) (n : Node) → first_or o (if q x then Some x else None) ≡ Some n → r x ≡ true → ((m : Node) → o ≡ Some m → r m ≡ true) → r n ≡ true
+has_step : (q r : Node → Bool) (x : Node) (o : Option Node) (n : Node) → option_or o (if q x then Some x else None) ≡ Some n → r x ≡ true → ((m : Node) → o ≡ Some m → r m ≡ true) → r n ≡ true
 has_step q r x (Some m) n is here rest = let one : m ≡ n = cc in rw one at (rest m refl)
 has_step q r x None n is here rest =
     elim (cases_Bool (q x)) [
@@ -232,7 +232,7 @@ last_has q r (x ∷ xs) n is all =
     let parts = and_parts (r x) (list_all r xs) all in
     has_step q r x (last_node q xs) n is parts.0 (λ m e. last_has q r xs m e parts.1)
 
-pass_step : (q : Node → Bool) (x : Node) (o : Option Node) (n : Node) → first_or o (if q x then Some x else None) ≡ Some n → ((m : Node) → o ≡ Some m → q m ≡ true) → q n ≡ true
+pass_step : (q : Node → Bool) (x : Node) (o : Option Node) (n : Node) → option_or o (if q x then Some x else None) ≡ Some n → ((m : Node) → o ≡ Some m → q m ≡ true) → q n ≡ true
 pass_step q x (Some m) n is rest = let one : m ≡ n = cc in rw one at (rest m refl)
 pass_step q x None n is rest =
     elim (cases_Bool (q x)) [
@@ -244,9 +244,9 @@ pub last_passes : (q : Node → Bool) (xs : List Node) (n : Node) → last_node 
 last_passes q [] n is = cc
 last_passes q (x ∷ xs) n is = pass_step q x (last_node q xs) n is (λ m e. last_passes q xs m e)
 
-found_step : (rev : RevId) (x : Node) (xs : List Node) (o : Option Node) → last_where (is_within (record { rev = rev; or_equal = true })) xs ≡ o → rises (x ∷ xs) ≡ true → if_of rev o ≡ node_of xs rev → if_of rev (first_or o (if is_within (record { rev = rev; or_equal = true }) x.rev then Some x else None)) ≡ node_of (x ∷ xs) rev
+found_step : (rev : RevId) (x : Node) (xs : List Node) (o : Option Node) → last_where (is_within (record { rev = rev; or_equal = true })) xs ≡ o → nodes_rise (x ∷ xs) ≡ true → if_of rev o ≡ node_of xs rev → if_of rev (option_or o (if is_within (record { rev = rev; or_equal = true }) x.rev then Some x else None)) ≡ node_of (x ∷ xs) rev
 found_step rev x xs None e h rest =
-    let parts = and_parts (is_below_all x.rev xs) (rises xs) h in
+    let parts = and_parts (is_below_all x.rev xs) (nodes_rise xs) h in
     elim (cases_Bool (is_within (record { rev = rev; or_equal = true }) x.rev)) [
       | inl w ↦ rw (w, sym rest) refl
       | inr w ↦
@@ -254,16 +254,16 @@ found_step rev x xs None e h rest =
           rw (w, greater_differs rev x.rev less) rest
     ]
 found_step rev x xs (Some m) e h rest =
-    let parts = and_parts (is_below_all x.rev xs) (rises xs) h in
+    let parts = and_parts (is_below_all x.rev xs) (nodes_rise xs) h in
     let above : is_lt (rev_cmp x.rev m.rev) ≡ true = last_has (λ (n : Node). is_within (record { rev = rev; or_equal = true }) n.rev) (λ (n : Node). is_lt (rev_cmp x.rev n.rev)) xs m e parts.0 in
     let up : is_within (record { rev = rev; or_equal = true }) m.rev ≡ true = last_passes (λ (n : Node). is_within (record { rev = rev; or_equal = true }) n.rev) xs m e in
     let less = within_less (record { rev = rev; or_equal = true }) x.rev m.rev above up in
     rw (less_differs x.rev rev less) rest
 
-pub node_found : (rev : RevId) (xs : List Node) → rises xs ≡ true → if_of rev (last_where (is_within (record { rev = rev; or_equal = true })) xs) ≡ node_of xs rev
+pub node_found : (rev : RevId) (xs : List Node) → nodes_rise xs ≡ true → if_of rev (last_where (is_within (record { rev = rev; or_equal = true })) xs) ≡ node_of xs rev
 node_found rev [] h = refl
 node_found rev (x ∷ xs) h =
-    found_step rev x xs (last_where (is_within (record { rev = rev; or_equal = true })) xs) refl h (node_found rev xs (and_parts (is_below_all x.rev xs) (rises xs) h).1)
+    found_step rev x xs (last_where (is_within (record { rev = rev; or_equal = true })) xs) refl h (node_found rev xs (and_parts (is_below_all x.rev xs) (nodes_rise xs) h).1)
 
 -- what is known, and whose parent is whose, by the node
 pub knows_by : (xs : List Node) (rev : RevId) (o : Option Node) → o ≡ node_of xs rev → is_some o ≡ knows xs rev

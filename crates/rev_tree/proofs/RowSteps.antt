@@ -9,7 +9,7 @@ use Rattle.sg_names.specs.RevId.{rev_cmp, same_rev}
 use Rattle.rev_tree.specs.declared.leaf.Leaf.{Leaf}
 use Rattle.rev_tree.specs.declared.tree.Node.{Node}
 use Rattle.rev_tree.specs.Tree.{knows}
-use Rattle.rev_tree.specs.Rising.{rises, insert_node, without, last_node, last_where, falling, starts, is_within}
+use Rattle.rev_tree.specs.Rising.{nodes_rise, insert_node, without, last_node, last_where, falling, starts, is_within}
 use Rattle.rev_tree.specs.inner.Parts.{joined}
 use Rattle.rev_tree.proofs.RevOrder.{Closed, within_strictly}
 use Rattle.rev_tree.proofs.Rises.{found_in, put_in_part, insert_past, take_from_part, or_false, last_past, last_front, falling_append}
@@ -34,14 +34,14 @@ module _ {X Z : Type 0} (nodes : X → List Node) (parts : List (Arc X Z)) (j : 
       let one = or_false (knows before rev) (knows (here ++ after) rev) (sym (list_any-append (λ (n : Node). same_rev n.rev rev) before (here ++ after)) ∙ all) in
       (or_false (knows here rev) (knows after rev) (sym (list_any-append (λ (n : Node). same_rev n.rev rev) here after) ∙ one.1)).0
 
-  pub found_part : (p : RevId → Bool) → Closed p → rises (joined nodes parts) ≡ true → starts p (joined nodes (drop j parts)) ≡ true → starts p (joined nodes (drop (j + 1) parts)) ≡ false → last_where p (nodes (arc_value part)) ≡ last_where p (joined nodes parts)
+  pub found_part : (p : RevId → Bool) → Closed p → nodes_rise (joined nodes parts) ≡ true → starts p (joined nodes (drop j parts)) ≡ true → starts p (joined nodes (drop (j + 1) parts)) ≡ false → last_where p (nodes (arc_value part)) ≡ last_where p (joined nodes parts)
   found_part p closed rising first next =
       let by = joined_by nodes parts j part within is in
       let here = rw (joined_at nodes parts j part within is) at first in
       let all = rw by at rising in
       rw by (found_in p closed (joined nodes (take j parts)) (nodes (arc_value part)) (joined nodes (drop (j + 1) parts)) all here next)
 
-  put_part_by : (n : Node) (place : ℕ) → j ≡ place - 1 → rises (joined nodes parts) ≡ true → ((i : ℕ) → i + 1 ≡ place → starts (λ r. is_lt (rev_cmp r n.rev)) (joined nodes (drop i parts)) ≡ true) → starts (λ r. is_lt (rev_cmp r n.rev)) (joined nodes (drop place parts)) ≡ false → joined nodes (take j parts) ++ (insert_node n (nodes (arc_value part)) ++ joined nodes (drop (j + 1) parts)) ≡ insert_node n (joined nodes (take j parts) ++ (nodes (arc_value part) ++ joined nodes (drop (j + 1) parts)))
+  put_part_by : (n : Node) (place : ℕ) → j ≡ place - 1 → nodes_rise (joined nodes parts) ≡ true → ((i : ℕ) → i + 1 ≡ place → starts (λ r. is_lt (rev_cmp r n.rev)) (joined nodes (drop i parts)) ≡ true) → starts (λ r. is_lt (rev_cmp r n.rev)) (joined nodes (drop place parts)) ≡ false → joined nodes (take j parts) ++ (insert_node n (nodes (arc_value part)) ++ joined nodes (drop (j + 1) parts)) ≡ insert_node n (joined nodes (take j parts) ++ (nodes (arc_value part) ++ joined nodes (drop (j + 1) parts)))
   put_part_by n zero at rising below above =
       let zero_j : j ≡ 0 = omega arith in
       let here : starts (λ r. is_lt (rev_cmp r n.rev)) (nodes (arc_value part) ++ joined nodes (drop (j + 1) parts)) ≡ false = sym (ap (starts (λ r. is_lt (rev_cmp r n.rev))) (joined_at nodes parts j part within is)) ∙ rw zero_j above in
@@ -54,12 +54,12 @@ module _ {X Z : Type 0} (nodes : X → List Node) (parts : List (Arc X Z)) (j : 
       put_in_part n (joined nodes (take j parts)) (nodes (arc_value part)) (joined nodes (drop (j + 1) parts)) (rw (joined_by nodes parts j part within is) at rising) here past
 
   -- a node put into the part before the first one that is not of a lesser revision
-  pub put_part : (n : Node) (place : ℕ) → j ≡ place - 1 → rises (joined nodes parts) ≡ true → ((i : ℕ) → i + 1 ≡ place → starts (is_within (record { rev = n.rev; or_equal = false })) (joined nodes (drop i parts)) ≡ true) → starts (is_within (record { rev = n.rev; or_equal = false })) (joined nodes (drop place parts)) ≡ false → joined nodes (take j parts) ++ (insert_node n (nodes (arc_value part)) ++ joined nodes (drop (j + 1) parts)) ≡ insert_node n (joined nodes parts)
+  pub put_part : (n : Node) (place : ℕ) → j ≡ place - 1 → nodes_rise (joined nodes parts) ≡ true → ((i : ℕ) → i + 1 ≡ place → starts (is_within (record { rev = n.rev; or_equal = false })) (joined nodes (drop i parts)) ≡ true) → starts (is_within (record { rev = n.rev; or_equal = false })) (joined nodes (drop place parts)) ≡ false → joined nodes (take j parts) ++ (insert_node n (nodes (arc_value part)) ++ joined nodes (drop (j + 1) parts)) ≡ insert_node n (joined nodes parts)
   put_part n place at rising below above =
       put_part_by n place at rising (λ i e. sym (starts_strictly n.rev (joined nodes (drop i parts))) ∙ below i e) (sym (starts_strictly n.rev (joined nodes (drop place parts))) ∙ above) ∙ ap (insert_node n) (sym (joined_by nodes parts j part within is))
 
   -- a node taken out of the last part that does not begin past its revision
-  pub take_part : (rev : RevId) → rises (joined nodes parts) ≡ true → starts (is_within (record { rev = rev; or_equal = true })) (joined nodes (drop j parts)) ≡ true → starts (is_within (record { rev = rev; or_equal = true })) (joined nodes (drop (j + 1) parts)) ≡ false → joined nodes (take j parts) ++ (without rev (nodes (arc_value part)) ++ joined nodes (drop (j + 1) parts)) ≡ without rev (joined nodes parts)
+  pub take_part : (rev : RevId) → nodes_rise (joined nodes parts) ≡ true → starts (is_within (record { rev = rev; or_equal = true })) (joined nodes (drop j parts)) ≡ true → starts (is_within (record { rev = rev; or_equal = true })) (joined nodes (drop (j + 1) parts)) ≡ false → joined nodes (take j parts) ++ (without rev (nodes (arc_value part)) ++ joined nodes (drop (j + 1) parts)) ≡ without rev (joined nodes parts)
   take_part rev rising first next =
       let by = joined_by nodes parts j part within is in
       let here = rw (joined_at nodes parts j part within is) at first in

@@ -8,7 +8,7 @@ use Rattle.sg_names.specs.RevId.{same_rev}
 use Rattle.rev_tree.specs.declared.leaf.Leaf.{Leaf}
 use Rattle.rev_tree.specs.declared.tree.Node.{Node}
 use Rattle.rev_tree.specs.Order.{in_order, leaves_below}
-use Rattle.rev_tree.specs.Rising.{rises, falling, insert_node}
+use Rattle.rev_tree.specs.Rising.{nodes_rise, falling, insert_node}
 use Rattle.rev_tree.specs.Tree.{knows, leaves_of, is_parent}
 use Rattle.rev_tree.specs.Extension.{falls, added, first_of, with_nodes}
 use Rattle.rev_tree.specs.Shape.{stands_on, is_tree, tips, without_this}
@@ -16,10 +16,10 @@ use Rattle.rev_tree.proofs.Rises.{or_false}
 use Rattle.rev_tree.proofs.Hanging.{rises_filter}
 use Rattle.rev_tree.proofs.Firsts.{falling_in_order, falling_below}
 
-pub tree_rises : (nodes : List Node) → is_tree nodes ≡ true → rises nodes ≡ true
-tree_rises nodes is = (and_parts (rises nodes) (list_all (λ (n : Node). stands_on nodes n.rev n.parent) nodes) is).0
+pub tree_rises : (nodes : List Node) → is_tree nodes ≡ true → nodes_rise nodes ≡ true
+tree_rises nodes is = (and_parts (nodes_rise nodes) (list_all (λ (n : Node). stands_on nodes n.rev n.parent) nodes) is).0
 
-pub tips_rise : (nodes : List Node) → is_tree nodes ≡ true → rises (tips nodes) ≡ true
+pub tips_rise : (nodes : List Node) → is_tree nodes ≡ true → nodes_rise (tips nodes) ≡ true
 tips_rise nodes is = rises_filter (λ (n : Node). not (is_parent nodes n.rev)) nodes (tree_rises nodes is)
 
 pub leaves_fall : (nodes : List Node) → is_tree nodes ≡ true → falling (tips nodes) ≡ in_order (leaves_of nodes)

@@ -29,9 +29,9 @@ first_known tree [] = None
 first_known tree (a ∷ more) = if knows tree a then Some a else first_known tree more
 
 -- how many ancestors are kept: those up to the first known one and that one, or all where none is known
-abbrev pub kept_of : List Node → List RevId → ℕ
-kept_of tree [] = 0
-kept_of tree (a ∷ more) = if knows tree a then 1 else kept_of tree more + 1
+abbrev pub kept_ancestors : List Node → List RevId → ℕ
+kept_ancestors tree [] = 0
+kept_ancestors tree (a ∷ more) = if knows tree a then 1 else kept_ancestors tree more + 1
 
 -- the nearest ancestor, if there is one
 abbrev pub first_of : List RevId → Option RevId

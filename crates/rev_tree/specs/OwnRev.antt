@@ -16,12 +16,12 @@ parent_text None = []
 parent_text (Some parent) = rev_text parent
 
 -- the character `1` for deleted, else `0`
-abbrev pub mark_of : Bool → ℕ
-mark_of deleted = if deleted then 49 else 48
+abbrev pub deleted_mark : Bool → ℕ
+deleted_mark deleted = if deleted then 49 else 48
 
 -- what the digest is taken of: the parent's text, a zero byte, the deleted mark, a zero byte, and the body
 abbrev pub digest_input : Option RevId → Bool → List ℕ → List ℕ
-digest_input parent deleted body = parent_text parent ++ 0 ∷ mark_of deleted ∷ 0 ∷ body
+digest_input parent deleted body = parent_text parent ++ 0 ∷ deleted_mark deleted ∷ 0 ∷ body
 
 -- one generation above the parent, or 1, with the MD5 (RFC 1321) in 32 lower-case hexadecimal digits as digest
 unfoldable pub own_rev_of : Option RevId → Bool → List ℕ → RevId

@@ -14,9 +14,9 @@ abbrev pub is_below_all : RevId → List Node → Bool
 is_below_all rev nodes = list_all (λ n. is_lt (rev_cmp rev n.rev)) nodes
 
 -- whether each revision is less than all after it
-abbrev pub rises : List Node → Bool
-rises [] = true
-rises (n ∷ more) = is_below_all n.rev more && rises more
+abbrev pub nodes_rise : List Node → Bool
+nodes_rise [] = true
+nodes_rise (n ∷ more) = is_below_all n.rev more && nodes_rise more
 
 -- a node put before the first one that is not of a lesser revision
 abbrev pub insert_node : Node → List Node → List Node
@@ -43,14 +43,14 @@ abbrev pub is_within : Limit → RevId → Bool
 is_within limit rev = is_up_to limit.or_equal (rev_cmp rev limit.rev)
 
 -- the second where there is no first
-abbrev pub first_or : {A : Type 0} → Option A → Option A → Option A
-first_or None other = other
-first_or (Some a) other = Some a
+abbrev pub option_or : {A : Type 0} → Option A → Option A → Option A
+option_or None other = other
+option_or (Some a) other = Some a
 
 -- the last node that passes
 abbrev pub last_node : (Node → Bool) → List Node → Option Node
 last_node p [] = None
-last_node p (n ∷ more) = first_or (last_node p more) (if p n then Some n else None)
+last_node p (n ∷ more) = option_or (last_node p more) (if p n then Some n else None)
 
 -- the last node of which the revision passes
 abbrev pub last_where : (RevId → Bool) → List Node → Option Node

@@ -5,7 +5,7 @@ use Rattle.std.specs.Ordering.{is_lt}
 use Rattle.sg_names.specs.declared.rev_id.RevId.{RevId}
 use Rattle.sg_names.specs.RevId.{rev_cmp}
 use Rattle.rev_tree.specs.declared.tree.Node.{Node}
-use Rattle.rev_tree.specs.Rising.{rises}
+use Rattle.rev_tree.specs.Rising.{nodes_rise}
 use Rattle.rev_tree.specs.Tree.{knows, is_this, is_parent}
 
 -- whether a revision has no parent, or one that is less and in the tree
@@ -15,7 +15,7 @@ stands_on tree rev (Some parent) = knows tree parent && is_lt (rev_cmp parent re
 
 -- the revisions rise, and each one's parent stands before it
 abbrev pub is_tree : List Node → Bool
-is_tree tree = rises tree && list_all (λ n. stands_on tree n.rev n.parent) tree
+is_tree tree = nodes_rise tree && list_all (λ n. stands_on tree n.rev n.parent) tree
 
 -- the nodes of the leaves: those that are no parent
 abbrev pub tips : List Node → List Node

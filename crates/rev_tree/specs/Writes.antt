@@ -10,8 +10,8 @@ use Rattle.rev_tree.specs.Tree.{knows}
 use Rattle.rev_tree.specs.Extension.{Recorded, falls, with_write}
 
 -- whether a revision is among these
-abbrev pub among : List RevId → RevId → Bool
-among revs rev = list_any (λ r. same_rev r rev) revs
+abbrev pub rev_among : List RevId → RevId → Bool
+rev_among revs rev = list_any (λ r. same_rev r rev) revs
 
 -- a write's revision and its ancestors
 abbrev pub path_of : Recorded → List RevId
@@ -23,18 +23,18 @@ revisions [] = []
 revisions (w ∷ older) = path_of w ++ revisions older
 
 -- a revision and its parent
-pub record Pair : Type 0 where
+pub record RevPair : Type 0 where
   pub rev : RevId
   pub parent : RevId
 
 -- the pairs of revisions that stand next to each other
-abbrev pub neighbours : List RevId → List Pair
+abbrev pub neighbours : List RevId → List RevPair
 neighbours [] = []
 neighbours (a ∷ []) = []
 neighbours (a ∷ b ∷ more) = record { rev = a; parent = b } ∷ neighbours (b ∷ more)
 
 -- the pairs of revisions that stand next to each other in the writes' lists
-abbrev pub pairs : List Recorded → List Pair
+abbrev pub pairs : List Recorded → List RevPair
 pairs [] = []
 pairs (w ∷ older) = neighbours (path_of w) ++ pairs older
 

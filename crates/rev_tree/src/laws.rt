@@ -22,7 +22,7 @@ ghost use Rattle.rev_tree.specs.Writes as writes;
 /// leaves that these pairs leave, and their winner.
 pub fn trees_of_writes()
     ensures revisions { (ws : List Recorded) (rev : RevId) → writes.AreAccepted ws → trees.knows
-        (writes.tree_of ws) rev ≡ writes.among (writes.revisions ws) rev }
+        (writes.tree_of ws) rev ≡ writes.rev_among (writes.revisions ws) rev }
     ensures pairs { (ws : List Recorded) (rev parent : RevId) → writes.AreAccepted ws
         → trees.has_pair (writes.tree_of ws) rev parent ≡ writes.has_pair_in ws rev parent }
     ensures parents { (ws : List Recorded) (rev parent : RevId) → writes.AreAccepted ws →
@@ -56,7 +56,7 @@ pub fn leaves()
 pub fn extensions()
     ensures known { (tree : List Node) (w : Recorded) (rev : RevId)
         → IsTrue (writes.is_accepted tree w) → trees.knows (with_write tree w) rev
-        ≡ (writes.among (writes.path_of w) rev || trees.knows tree rev) }
+        ≡ (writes.rev_among (writes.path_of w) rev || trees.knows tree rev) }
     ensures some { (tree : List Node) (w : Recorded) → with_write tree w ≢ [] }
 {}
 

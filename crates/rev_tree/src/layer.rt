@@ -3,7 +3,7 @@
 ghost use Rattle.std.specs.Prelude.{◌≡◌, ◌++◌, [], false, IfOk, OnOk, IsTrue};
 ghost use Rattle.std.specs.Arc.{arc_value};
 ghost use Rattle.std.specs.Option.{option_copied};
-ghost use Rattle.rev_tree.specs.Rising.{rises, is_within, last_where, last_alive, falling, insert_node, without};
+ghost use Rattle.rev_tree.specs.Rising.{nodes_rise, is_within, last_where, last_alive, falling, insert_node, without};
 ghost use Rattle.rev_tree.specs.Tree as trees;
 
 use crate::bound::Bound;
@@ -25,7 +25,7 @@ pub struct Layer<P: Part> {
 impl<P: Part> Model for Layer<P> {
     ghost use Rattle.std.specs.Prelude.{List, IsTrue};
     ghost use Rattle.rev_tree.specs.declared.tree.Node.{Node};
-    ghost use Rattle.rev_tree.specs.Rising.{rises};
+    ghost use Rattle.rev_tree.specs.Rising.{nodes_rise};
     ghost use Rattle.rev_tree.specs.inner.Parts.{joined, are_sound};
 
     ghost Value = { List Node };
@@ -33,7 +33,7 @@ impl<P: Part> Model for Layer<P> {
     ghost view = { λ l. joined P.nodes l.parts.items };
 
     ghost invariant = { λ l. IsTrue (are_sound P.is_sound l.parts.items)
-        × IsTrue (rises (joined P.nodes l.parts.items)) };
+        × IsTrue (nodes_rise (joined P.nodes l.parts.items)) };
 }
 
 impl<P: Part> Layer<P> {
@@ -59,7 +59,7 @@ impl<P: Part> Layer<P> {
     /// The last node that is within a bound. Allocates nothing.
     pub fn last_within<'a>(&'a self, bound: &Bound<'_>) -> Option<&'a Node>
         ensures value { option_copied result ≡ last_where (is_within bound.now) self.now }
-        ensures rises { IsTrue (rises self.now) }
+        ensures rises { IsTrue (nodes_rise self.now) }
     {
         row::last_in(self.parts.as_slice(), bound)
     }

@@ -15,7 +15,7 @@ use std::alloc::{AllocError, Global};
 
 /// `1` for deleted, else `0`.
 fn mark_of(deleted: bool) -> u8
-    ensures { result ≡ own.mark_of deleted }
+    ensures { result ≡ own.deleted_mark deleted }
 {
     if deleted { b'1' } else { b'0' }
 }
@@ -33,7 +33,7 @@ fn parent_text(alloc: Global, parent: Option<&RevId>) -> Result<Bytes, AllocErro
 
 /// The digest of a parent's text, a zero byte, the deleted mark, a zero byte, and the body.
 fn digest_of(parent: &[u8], deleted: bool, body: &[u8]) -> [u8; 16]
-    ensures { result ≡ md5 (parent.now ++ 0 ∷ own.mark_of deleted ∷ 0 ∷ body.now) }
+    ensures { result ≡ md5 (parent.now ++ 0 ∷ own.deleted_mark deleted ∷ 0 ∷ body.now) }
 {
     let mut hasher = Md5::new();
     hasher.update(parent);

@@ -4,7 +4,7 @@ ghost use Rattle.std.specs.Prelude.{◌≡◌, ◌∷◌, [], List, Bool, IsTrue
 ghost use Rattle.std.specs.Arc.{arc_value};
 ghost use Rattle.std.specs.Option.{option_copied};
 ghost use Rattle.rev_tree.specs.declared.tree.Node as tree_node;
-ghost use Rattle.rev_tree.specs.Rising.{rises, is_within, last_where, last_alive, falling, insert_node, without};
+ghost use Rattle.rev_tree.specs.Rising.{nodes_rise, is_within, last_where, last_alive, falling, insert_node, without};
 ghost use Rattle.rev_tree.specs.inner.Parts.{AreParts, IsHead};
 ghost use Rattle.rev_tree.specs.Tree as trees;
 

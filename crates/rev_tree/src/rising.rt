@@ -3,7 +3,7 @@
 ghost use Rattle.std.specs.Prelude.{◌≡◌, ◌++◌, ◌∷◌, [], nat_lt, map, take, filter, false, IfOk, OnOk, IsTrue};
 ghost use Rattle.std.specs.Arc.{arc_value};
 ghost use Rattle.std.specs.Option.{option_copied};
-ghost use Rattle.rev_tree.specs.Rising.{rises, is_within, last_where, last_alive, falling, insert_node, without, node_of};
+ghost use Rattle.rev_tree.specs.Rising.{nodes_rise, is_within, last_where, last_alive, falling, insert_node, without, node_of};
 ghost use Rattle.rev_tree.specs.Tree as trees;
 
 use crate::bound::Bound;
@@ -89,7 +89,7 @@ impl RisingNodes {
     /// The last node that is within a bound. Allocates nothing.
     pub fn last_within<'a>(&'a self, bound: &Bound<'_>) -> Option<&'a Node>
         ensures value { option_copied result ≡ last_where (is_within bound.now) self.now }
-        ensures rises { IsTrue (rises self.now) }
+        ensures rises { IsTrue (nodes_rise self.now) }
     {
         match &self.layers {
             Layers::Few(nodes) => nodes.last_within(bound),

@@ -3,7 +3,7 @@
 ghost use Rattle.std.specs.Prelude.{◌≡◌, ◌++◌, ◌+◌, ◌≤◌, ◌<◌, ◌&&◌, ℕ, true, false, take, drop, length, IsTrue, IfOk, OnOk};
 ghost use Rattle.std.specs.Arc.{arc_value};
 ghost use Rattle.std.specs.Option.{option_copied};
-ghost use Rattle.rev_tree.specs.Rising.{rises, is_within, last_where, last_alive, falling, insert_node, without, starts};
+ghost use Rattle.rev_tree.specs.Rising.{nodes_rise, is_within, last_where, last_alive, falling, insert_node, without, starts};
 ghost use Rattle.rev_tree.specs.inner.Parts.{joined, are_sound, is_row, AreParts};
 ghost use Rattle.rev_tree.specs.Tree as trees;
 
@@ -43,7 +43,7 @@ fn place_of<P: Part>(parts: &[Arc<P>], bound: &Bound<'_>) -> usize
 /// The last node that is within a bound.
 pub fn last_in<'a, P: Part>(parts: &'a [Arc<P>], bound: &Bound<'_>) -> Option<&'a Node>
     requires sound { IsTrue (are_sound P.is_sound parts.now) }
-    requires rises { IsTrue (rises (joined P.nodes parts.now)) }
+    requires rises { IsTrue (nodes_rise (joined P.nodes parts.now)) }
     ensures { option_copied result ≡ last_where (is_within bound.now)
         (joined P.nodes parts.now) }
 {
@@ -134,7 +134,7 @@ pub fn put_in<P: Part>(
     node: &Arc<Node>,
 ) -> Result<Vec<Arc<P>>, AllocError>
     requires sound { IsTrue (are_sound P.is_sound parts.now) }
-    requires rises { IsTrue (rises (joined P.nodes parts.now)) }
+    requires rises { IsTrue (nodes_rise (joined P.nodes parts.now)) }
     requires unknown { trees.knows (joined P.nodes parts.now) (arc_value node.now).rev ≡ false }
     ensures { IfOk result (λ all. AreParts P.nodes P.is_sound all.items
         (insert_node (arc_value node.now) (joined P.nodes parts.now))) }
@@ -156,7 +156,7 @@ pub fn take_from<P: Part>(
     rev: &RevId,
 ) -> Result<Vec<Arc<P>>, AllocError>
     requires sound { IsTrue (are_sound P.is_sound parts.now) }
-    requires rises { IsTrue (rises (joined P.nodes parts.now)) }
+    requires rises { IsTrue (nodes_rise (joined P.nodes parts.now)) }
     ensures { IfOk result (λ all. AreParts P.nodes P.is_sound all.items
         (without rev.now (joined P.nodes parts.now))) }
 {
@@ -180,7 +180,7 @@ pub struct Row<P> {
 fn row_of<P: Part>(alloc: Global, from: &[Arc<P>]) -> Result<Arc<Row<P>>, AllocError>
     requires some { 0 < length from.now }
     requires sound { IsTrue (are_sound P.is_sound from.now) }
-    requires rises { IsTrue (rises (joined P.nodes from.now)) }
+    requires rises { IsTrue (nodes_rise (joined P.nodes from.now)) }
     ensures nodes { IfOk result (λ row. joined P.nodes (arc_value row).parts.items
         ≡ joined P.nodes from.now) }
     ensures sound { IfOk result (λ row. IsTrue
@@ -194,7 +194,7 @@ fn row_of<P: Part>(alloc: Global, from: &[Arc<P>]) -> Result<Arc<Row<P>>, AllocE
 /// The rows of some parts: none where there are none, two where there are too many for one.
 pub fn rows_of<P: Part>(alloc: Global, parts: &[Arc<P>]) -> Result<Vec<Arc<Row<P>>>, AllocError>
     requires sound { IsTrue (are_sound P.is_sound parts.now) }
-    requires rises { IsTrue (rises (joined P.nodes parts.now)) }
+    requires rises { IsTrue (nodes_rise (joined P.nodes parts.now)) }
     ensures { IfOk result (λ rows. AreParts (λ row. joined P.nodes row.parts.items)
         (λ row. is_row P.nodes P.is_sound row.parts.items) rows.items
         (joined P.nodes parts.now)) }

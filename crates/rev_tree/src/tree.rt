@@ -11,7 +11,7 @@ ghost use Rattle.rev_tree.specs.Answer.{IfNewTree, IfConflict};
 ghost use Rattle.rev_tree.specs.declared.extend.Extended.TheVariants.{Known, BadHistory400};
 ghost use Rattle.rev_tree.specs.inner.Search.{known_place};
 ghost use Rattle.rev_tree.specs.Shape as shape;
-ghost use Rattle.rev_tree.specs.Rising.{rises, insert_node, first_or, last_alive};
+ghost use Rattle.rev_tree.specs.Rising.{nodes_rise, insert_node, option_or, last_alive};
 ghost use Rattle.rev_tree.specs.Writes.{is_accepted};
 
 use crate::extend::Extended;
@@ -58,7 +58,7 @@ impl Model for Tree {
 
 /// The node of the leaf that wins, among those of leaves.
 fn best(tips: &RisingNodes) -> Option<&Node>
-    ensures { option_copied result ≡ first_or
+    ensures { option_copied result ≡ option_or
         (last_alive true tips.now) (last_alive false tips.now) }
 {
     match tips.last_alive(true) {
@@ -69,7 +69,7 @@ fn best(tips: &RisingNodes) -> Option<&Node>
 
 /// The leaf that wins, among the nodes of leaves.
 fn winner_among(tips: &RisingNodes) -> Result<Option<Leaf>, AllocError>
-    requires { IsTrue (rises tips.now) }
+    requires { IsTrue (nodes_rise tips.now) }
     ensures { IfOk result (λ winner. winner
         ≡ order.first_leaf (map (λ n. trees.leaf_at n) tips.now)) }
 {
@@ -267,20 +267,20 @@ impl Tree {
         ensures bad_history { result ≢ BadHistory400 }
         ensures conflict { IfConflict result (λ leaf. ⊥) }
         ensures kept { IfNewTree result
-            (λ tree kept. kept ≡ extension.kept_of self.now ancestors.now) }
+            (λ tree kept. kept ≡ extension.kept_ancestors self.now ancestors.now) }
         ensures within { IfNewTree result (λ tree kept. kept ≤ length ancestors.now) }
         ensures tree { IfNewTree result (λ tree kept. tree ≡ extension.with_write self.now
             (record {
               rev = rev.now;
               ancestors = take
-                  (extension.kept_of self.now ancestors.now) ancestors.now;
+                  (extension.kept_ancestors self.now ancestors.now) ancestors.now;
               deleted = deleted;
             })) }
         ensures accepted { IsTrue (is_accepted self.now
             (record {
               rev = rev.now;
               ancestors = take
-                  (extension.kept_of self.now ancestors.now) ancestors.now;
+                  (extension.kept_ancestors self.now ancestors.now) ancestors.now;
               deleted = deleted;
             })) }
     {
@@ -309,7 +309,7 @@ impl Tree {
             (λ tree kept. extension.verdict_of self.now rev.now ancestors.now strict
             ≡ extends_tree) }
         ensures kept { IfNewTree result
-            (λ tree kept. kept ≡ extension.kept_of self.now ancestors.now) }
+            (λ tree kept. kept ≡ extension.kept_ancestors self.now ancestors.now) }
         ensures within { IfNewTree result (λ tree kept. kept ≤ length ancestors.now) }
         ensures tree { IfNewTree result (λ tree kept. tree ≡ extension.with_write self.now
             (record { rev = rev.now; ancestors = take kept ancestors.now; deleted = deleted })) }

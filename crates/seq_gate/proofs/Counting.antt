@@ -7,15 +7,15 @@ use native.Mathlib.Decide.{ℕ_discrete}
 use lib.ListN.{get_elem?}
 use Rattle.sg_history.specs.declared.book.Waiting.{Waiting}
 use Rattle.sg_history.specs.World.{once_among}
-use Rattle.seq_gate.specs.Counts.{once, times, numbers, below, total}
+use Rattle.seq_gate.specs.Counts.{count_once, times, numbers, below, total}
 
-pub tick_same : (k n : ℕ) → n ≡ k → once (nat_eq n k) ≡ 1
-tick_same k n e = ap once (eq-eqb n k e)
+pub tick_same : (k n : ℕ) → n ≡ k → count_once (nat_eq n k) ≡ 1
+tick_same k n e = ap count_once (eq-eqb n k e)
 
-pub tick_else : (k n : ℕ) → n ≢ k → once (nat_eq n k) ≡ 0
-tick_else k n e = ap once (ne_eqb n k e)
+pub tick_else : (k n : ℕ) → n ≢ k → count_once (nat_eq n k) ≡ 0
+tick_else k n e = ap count_once (ne_eqb n k e)
 
-pub tick_cases : (k n : ℕ) → ((n ≡ k) × (once (nat_eq n k) ≡ 1)) ⊎ ((n ≢ k) × (once (nat_eq n k) ≡ 0))
+pub tick_cases : (k n : ℕ) → ((n ≡ k) × (count_once (nat_eq n k) ≡ 1)) ⊎ ((n ≢ k) × (count_once (nat_eq n k) ≡ 0))
 tick_cases k n = elim (ℕ_discrete n k) [
   | yes e ↦ inl (e, tick_same k n e)
   | no e ↦ inr (e, tick_else k n e)
@@ -65,12 +65,12 @@ once_most k n = go (once_cases k n)
     go (inr out) = let none = out.1 in omega (arith, none)
 
 -- the number next to the last is one more
-pub once_more : (k n : ℕ) → once_among k (suc n) ≡ once_among k n + once (nat_eq (suc n) k)
+pub once_more : (k n : ℕ) → once_among k (suc n) ≡ once_among k n + count_once (nat_eq (suc n) k)
 once_more zero n = let other = tick_else 0 (suc n) (λ e. absurd (omega (arith, e))) in omega (arith, other)
 once_more (suc k) n = go (tick_cases (suc k) (suc n)) (cases_lt n (suc k))
   where
-    go : ((suc n ≡ suc k) × (once (nat_eq (suc n) (suc k)) ≡ 1)) ⊎ ((suc n ≢ suc k) × (once (nat_eq (suc n) (suc k)) ≡ 0)) → (n < suc k) ⊎ (suc k ≤ n)
-        → once_among (suc k) (suc n) ≡ once_among (suc k) n + once (nat_eq (suc n) (suc k))
+    go : ((suc n ≡ suc k) × (count_once (nat_eq (suc n) (suc k)) ≡ 1)) ⊎ ((suc n ≢ suc k) × (count_once (nat_eq (suc n) (suc k)) ≡ 0)) → (n < suc k) ⊎ (suc k ≤ n)
+        → once_among (suc k) (suc n) ≡ once_among (suc k) n + count_once (nat_eq (suc n) (suc k))
     go (inl e) side =
         let same = e.0 in
         let tick = e.1 in
@@ -92,10 +92,10 @@ once_more (suc k) n = go (tick_cases (suc k) (suc n)) (cases_lt n (suc k))
 -- ---- the first so many numbers from 0
 
 pub below_in : (k n : ℕ) → k < n → below k n ≡ 1
-below_in k n within = ap once (lt-ltb k n within)
+below_in k n within = ap count_once (lt-ltb k n within)
 
 pub below_out : (k n : ℕ) → n ≤ k → below k n ≡ 0
-below_out k n out = ap once (le-ltb k n out)
+below_out k n out = ap count_once (le-ltb k n out)
 
 pub below_most : (k n : ℕ) → below k n ≤ 1
 below_most k n = ⊎_elim
@@ -115,10 +115,10 @@ below_zero k n none = ⊎_elim
     (λ (x : n ≤ k). x)
     (cases_lt k n)
 
-pub below_more : (k n : ℕ) → below k (suc n) ≡ below k n + once (nat_eq n k)
+pub below_more : (k n : ℕ) → below k (suc n) ≡ below k n + count_once (nat_eq n k)
 below_more k n = go (tick_cases k n) (cases_lt k n)
   where
-    go : ((n ≡ k) × (once (nat_eq n k) ≡ 1)) ⊎ ((n ≢ k) × (once (nat_eq n k) ≡ 0)) → (k < n) ⊎ (n ≤ k) → below k (suc n) ≡ below k n + once (nat_eq n k)
+    go : ((n ≡ k) × (count_once (nat_eq n k) ≡ 1)) ⊎ ((n ≢ k) × (count_once (nat_eq n k) ≡ 0)) → (k < n) ⊎ (n ≤ k) → below k (suc n) ≡ below k n + count_once (nat_eq n k)
     go (inl e) side =
         let same = e.0 in
         let tick = e.1 in

@@ -10,7 +10,7 @@ use Rattle.sg_history.specs.Book.{Book, book_of, entry_or, waiting_at}
 use Rattle.sg_history.specs.History.{Extends}
 use Rattle.sg_history.specs.World.{once_among, rises_from}
 use Rattle.seq_gate.specs.Boards.{HasAll}
-use Rattle.seq_gate.specs.Counts.{once, times, numbers, is_unused, stands, used}
+use Rattle.seq_gate.specs.Counts.{count_once, times, numbers, is_unused, stands, count_used}
 use Rattle.seq_gate.specs.Passes.{before_if_none, still_held, before_if_used, stored_at, IsAboveBook, IsAboveAll}
 use Rattle.seq_gate.proofs.Counting.{tick_else, once_most}
 
@@ -70,7 +70,7 @@ pub held_none : (book : Book) (k : ℕ) (ns : List ℕ) → book k ≡ None → 
 held_none book k [] h = refl
 held_none book k (n ∷ ns) h = go (book n) refl (held_none book k ns h)
   where
-    go : (o : Option Entry) → book n ≡ o → times k (still_held book ns) ≡ times k ns → times k (before_if_none o n (still_held book ns)) ≡ once (nat_eq n k) + times k ns
+    go : (o : Option Entry) → book n ≡ o → times k (still_held book ns) ≡ times k ns → times k (before_if_none o n (still_held book ns)) ≡ count_once (nat_eq n k) + times k ns
     go None is rest = omega (arith, rest)
     go (Some e) is rest =
         let this = tick_else k n (λ same. none-some e (sym h ∙ ap book (sym same) ∙ is)) in
@@ -99,23 +99,23 @@ stored_has b (n ∷ ns) = go (board_book b n) refl (stored_has b ns)
     go (Some e) is rest = pick (is_unused e) e is rest
 
 -- how often a number is that of an entry stored at these: where the book has one that was not given up, as often as it stands there
-stored_used : (book : Book) (k : ℕ) (ns : List ℕ) → used (book k) ≡ 1 → times k (numbers (stored_at book ns)) ≡ times k ns
+stored_used : (book : Book) (k : ℕ) (ns : List ℕ) → count_used (book k) ≡ 1 → times k (numbers (stored_at book ns)) ≡ times k ns
 stored_used book k [] one = refl
 stored_used book k (n ∷ ns) one = go (book n) refl (stored_used book k ns one)
   where
-    other : (o : Option Entry) → book n ≡ o → used o ≡ 0 → once (nat_eq n k) ≡ 0
-    other o is none = tick_else k n (λ same. let a : used (book n) ≡ used (book k) = ap (λ (i : ℕ). used (book i)) same in let c : used (book n) ≡ 0 = ap used is ∙ none in absurd (omega (arith, a, c, one)))
+    other : (o : Option Entry) → book n ≡ o → count_used o ≡ 0 → count_once (nat_eq n k) ≡ 0
+    other o is none = tick_else k n (λ same. let a : count_used (book n) ≡ count_used (book k) = ap (λ (i : ℕ). count_used (book i)) same in let c : count_used (book n) ≡ 0 = ap count_used is ∙ none in absurd (omega (arith, a, c, one)))
 
     pick : (u : Bool) (e : Entry) → book n ≡ Some e → is_unused e ≡ u → times k (numbers (stored_at book ns)) ≡ times k ns
-        → times k (numbers (if u then stored_at book ns else record { number = n; entry = e } ∷ stored_at book ns)) ≡ once (nat_eq n k) + times k ns
+        → times k (numbers (if u then stored_at book ns else record { number = n; entry = e } ∷ stored_at book ns)) ≡ count_once (nat_eq n k) + times k ns
     pick true e is given rest = let none = other (Some e) is (ap (λ (b : Bool). if b then 0 else 1) given) in omega (arith, rest, none)
     pick false e is given rest = omega (arith, rest)
 
-    go : (o : Option Entry) → book n ≡ o → times k (numbers (stored_at book ns)) ≡ times k ns → times k (numbers (before_if_used o n (stored_at book ns))) ≡ once (nat_eq n k) + times k ns
+    go : (o : Option Entry) → book n ≡ o → times k (numbers (stored_at book ns)) ≡ times k ns → times k (numbers (before_if_used o n (stored_at book ns))) ≡ count_once (nat_eq n k) + times k ns
     go None is rest = let none = other None is refl in omega (arith, rest, none)
     go (Some e) is rest = pick (is_unused e) e is refl rest
 
-stored_none : (book : Book) (k : ℕ) (ns : List ℕ) → used (book k) ≡ 0 → times k (numbers (stored_at book ns)) ≡ 0
+stored_none : (book : Book) (k : ℕ) (ns : List ℕ) → count_used (book k) ≡ 0 → times k (numbers (stored_at book ns)) ≡ 0
 stored_none book k [] none = refl
 stored_none book k (n ∷ ns) none = go (book n) refl (stored_none book k ns none)
   where
@@ -123,14 +123,14 @@ stored_none book k (n ∷ ns) none = go (book n) refl (stored_none book k ns non
         → times k (numbers (if u then stored_at book ns else record { number = n; entry = e } ∷ stored_at book ns)) ≡ 0
     pick true e is given rest = rest
     pick false e is given rest =
-        let this = tick_else k n (λ same. let a : used (book n) ≡ used (book k) = ap (λ (i : ℕ). used (book i)) same in let c : used (book n) ≡ 1 = ap used is ∙ ap (λ (b : Bool). if b then 0 else 1) given in absurd (omega (arith, a, c, none))) in
+        let this = tick_else k n (λ same. let a : count_used (book n) ≡ count_used (book k) = ap (λ (i : ℕ). count_used (book i)) same in let c : count_used (book n) ≡ 1 = ap count_used is ∙ ap (λ (b : Bool). if b then 0 else 1) given in absurd (omega (arith, a, c, none))) in
         omega (arith, rest, this)
 
     go : (o : Option Entry) → book n ≡ o → times k (numbers (stored_at book ns)) ≡ 0 → times k (numbers (before_if_used o n (stored_at book ns))) ≡ 0
     go None is rest = rest
     go (Some e) is rest = pick (is_unused e) e is refl rest
 
-pub used_most : (o : Option Entry) → (used o ≡ 0) ⊎ (used o ≡ 1)
+pub used_most : (o : Option Entry) → (count_used o ≡ 0) ⊎ (count_used o ≡ 1)
 used_most None = inl refl
 used_most (Some e) = go (is_unused e)
   where
@@ -166,30 +166,30 @@ module _ (found left : BoardState) (held : List ℕ) (k n : ℕ) (kept : (e : En
           omega (arith, a, b, gone, most, within)
 
   -- and the entry there is a new own one just where the board found had none
-  pub stored_once : used (board_book left k) ≡ used (board_book found k) + times k (numbers (stored_at (board_book left) held))
+  pub stored_once : count_used (board_book left k) ≡ count_used (board_book found k) + times k (numbers (stored_at (board_book left) held))
   stored_once = go (board_book left k) refl (board_book found k) refl (used_most (board_book left k))
     where
-      go : (o : Option Entry) → board_book left k ≡ o → (p : Option Entry) → board_book found k ≡ p → (used (board_book left k) ≡ 0) ⊎ (used (board_book left k) ≡ 1)
-          → used (board_book left k) ≡ used (board_book found k) + times k (numbers (stored_at (board_book left) held))
-      go None is None was u = let a = ap used is in let b = ap used was in let none = stored_none (board_book left) k held a in omega (arith, a, b, none)
+      go : (o : Option Entry) → board_book left k ≡ o → (p : Option Entry) → board_book found k ≡ p → (count_used (board_book left k) ≡ 0) ⊎ (count_used (board_book left k) ≡ 1)
+          → count_used (board_book left k) ≡ count_used (board_book found k) + times k (numbers (stored_at (board_book left) held))
+      go None is None was u = let a = ap count_used is in let b = ap count_used was in let none = stored_none (board_book left) k held a in omega (arith, a, b, none)
       go None is (Some e) was u = absurd (none-some e (sym is ∙ kept e was))
       go (Some e) is None was (inl z) =
-          let b = ap used was in let none = stored_none (board_book left) k held z in omega (arith, z, b, none)
+          let b = ap count_used was in let none = stored_none (board_book left) k held z in omega (arith, z, b, none)
       go (Some e) is None was (inr one) =
-          let b = ap used was in
+          let b = ap count_used was in
           let c = ap stands was in
           let all = stored_used (board_book left) k held one in
           let some = more e is was in
           let most = once_most k n in
           omega (arith, one, b, c, all, some, most, within)
       go (Some e) is (Some f) was u =
-          let same : used (board_book left k) ≡ used (board_book found k) = ap used (kept f was) ∙ sym (ap used was) in
+          let same : count_used (board_book left k) ≡ count_used (board_book found k) = ap count_used (kept f was) ∙ sym (ap count_used was) in
           let c = ap stands was in
           let most = once_most k n in
           let none = at_none (omega (arith, c, most, within)) u in
           omega (arith, same, none)
         where
-          at_none : times k held ≡ 0 → (used (board_book left k) ≡ 0) ⊎ (used (board_book left k) ≡ 1) → times k (numbers (stored_at (board_book left) held)) ≡ 0
+          at_none : times k held ≡ 0 → (count_used (board_book left k) ≡ 0) ⊎ (count_used (board_book left k) ≡ 1) → times k (numbers (stored_at (board_book left) held)) ≡ 0
           at_none none (inl z) = stored_none (board_book left) k held z
           at_none none (inr one) = stored_used (board_book left) k held one ∙ none
 
@@ -197,7 +197,7 @@ module _ (found left : BoardState) (held : List ℕ) (k n : ℕ) (kept : (e : En
   pub stored_within : times k held ≡ 0 → times k (numbers (stored_at (board_book left) held)) ≡ 0
   stored_within none = go (used_most (board_book left k))
     where
-      go : (used (board_book left k) ≡ 0) ⊎ (used (board_book left k) ≡ 1) → times k (numbers (stored_at (board_book left) held)) ≡ 0
+      go : (count_used (board_book left k) ≡ 0) ⊎ (count_used (board_book left k) ≡ 1) → times k (numbers (stored_at (board_book left) held)) ≡ 0
       go (inl z) = stored_none (board_book left) k held z
       go (inr one) = stored_used (board_book left) k held one ∙ none
 

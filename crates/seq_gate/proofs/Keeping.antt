@@ -12,7 +12,7 @@ use Rattle.atomic_table.specs.Table.{State, Allows, step, keeps, takes, gives}
 use Rattle.atomic_table.proofs.Lists.{at_set, set_here, one_turn}
 use Rattle.sg_history.specs.Board.{BoardState, board_book, After}
 use Rattle.sg_history.specs.World.{once_among}
-use Rattle.seq_gate.specs.Counts.{once, total}
+use Rattle.seq_gate.specs.Counts.{count_once, total}
 use Rattle.seq_gate.specs.Passes.{share, drawn, drawn_in_turn, with_lowest_front, stored_at, IsNew, IsAboveBook, Finds, MayLeave}
 use Rattle.seq_gate.specs.Rule.{is_ticket, one_if_some, idle, spent, Fits, IsSound}
 use Rattle.seq_gate.specs.Turns.{knowing, ticketed, in_turn, leaving, passing, passed, Draws, DrawsInTurn, TakesTicket, Looks, Raises, Passes, LoadsFront, LoadsShare}
@@ -486,7 +486,7 @@ module _ {B : Type 0} (seen : B → BoardState) (o slots id : ℕ) where
         record {
           shares = refl;
           draws = omega arith;
-          tickets = λ k. let more = below_more k t in let mark : is_ticket k (Some ticket) ≡ once (nat_eq t k) = ap (is_ticket k) (mine.back refl) in omega (arith, more, mark);
+          tickets = λ k. let more = below_more k t in let mark : is_ticket k (Some ticket) ≡ count_once (nat_eq t k) = ap (is_ticket k) (mine.back refl) in omega (arith, more, mark);
           queued = omega arith;
           world = λ k. omega arith;
           waiting = sound.sums.waiting;

@@ -16,8 +16,8 @@ use Rattle.sg_history.specs.Book.{entry_or, waiting_at}
 use Rattle.sg_history.specs.History.{Extends}
 use Rattle.sg_history.specs.World.{once_among, rises_from}
 use Rattle.sg_history.specs.Rooms.{room_times}
-use Rattle.seq_gate.specs.Counts.{times, numbers, stands, used, total}
-use Rattle.seq_gate.specs.Passes.{share, longer, owed, Closes}
+use Rattle.seq_gate.specs.Counts.{times, numbers, stands, count_used, total}
+use Rattle.seq_gate.specs.Passes.{share, longer, owed_count, Closes}
 use Rattle.seq_gate.specs.Rule.{is_ticket, one_if_some, idle, spent, first_view, Fits, IsSound}
 use Rattle.seq_gate.specs.Turns.{view_split_from, view_split_off, view_joined}
 use Rattle.seq_gate.specs.declared.known.Known.{Known}
@@ -210,11 +210,11 @@ to_open itself seen board b is empty no_rooms_outstanding least =
         go (inl high) = ap stands (past_log (suc k) high) ∙ sym (once_past (suc k) (length b.log) (omega arith) high)
         go (inr low) = in_log b (suc k) (omega arith) low ∙ sym (once_in (suc k) (length b.log) (omega arith) low)
 
-    none_owed : (k : ℕ) → owed (length b.log) b k ≡ 0
+    none_owed : (k : ℕ) → owed_count (length b.log) b k ≡ 0
     none_owed k = go (nat_lt (length b.log) k) refl
       where
-        go : (t : Bool) → nat_lt (length b.log) k ≡ t → (if t then used (board_book b k) else 0) ≡ 0
-        go true high = ap used (past_log k (ltb-true (length b.log) k high))
+        go : (t : Bool) → nat_lt (length b.log) k ≡ t → (if t then count_used (board_book b k) else 0) ≡ 0
+        go true high = ap count_used (past_log k (ltb-true (length b.log) k high))
         go false low = refl
 
     fits_one : (k : ℕ) (u : View) → get_elem? (first_view b ∷ []) k ≡ some u → Fits (length b.log) 0 b u
@@ -273,7 +273,7 @@ to_close seen o id p s sound at whole held rooms =
         own = mine.own;
         owners = λ k.
             sym (whole_of (λ (u : View). times k (numbers u.knows.own)) refl) ∙ sound.sums.owners k
-            ∙ ap (λ (x : ℕ). owed x sound.last k) (sym (mine.opened (omega (arith, whole))));
+            ∙ ap (λ (x : ℕ). owed_count x sound.last k) (sym (mine.opened (omega (arith, whole))));
       },
     )
 

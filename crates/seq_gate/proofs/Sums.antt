@@ -11,8 +11,8 @@ use Rattle.sg_history.specs.Board.{BoardState, board_book}
 use Rattle.sg_history.specs.History.{Extends}
 use Rattle.sg_history.specs.World.{once_among, rises_from}
 use Rattle.sg_history.specs.Rooms.{room_times}
-use Rattle.seq_gate.specs.Counts.{times, numbers, stands, used, below, total}
-use Rattle.seq_gate.specs.Passes.{HasEachOnce, share, owed, stored_at, IsAboveBook, MayLeave}
+use Rattle.seq_gate.specs.Counts.{times, numbers, stands, count_used, below, total}
+use Rattle.seq_gate.specs.Passes.{HasEachOnce, share, owed_count, stored_at, IsAboveBook, MayLeave}
 use Rattle.seq_gate.specs.Rule.{is_ticket, one_if_some, Sums}
 use Rattle.seq_gate.specs.Turns.{leaving}
 use Rattle.seq_gate.specs.declared.known.View.{View}
@@ -23,10 +23,10 @@ use Rattle.seq_gate.proofs.Rooms.{room_times-append, without_all}
 pub extends_length : (a b : List Entry) → Extends a b → length a ≤ length b
 extends_length a b more = let l : length b ≡ length a + length more.0 = ap (λ (es : List Entry). length es) more.1 ∙ length-append a more.0 in omega (arith, l)
 
-owed_most : (o : ℕ) (b : BoardState) (k : ℕ) → owed o b k ≤ 1
+owed_most : (o : ℕ) (b : BoardState) (k : ℕ) → owed_count o b k ≤ 1
 owed_most o b k = go (nat_lt o k) (used_most (board_book b k))
   where
-    go : (t : Bool) → (used (board_book b k) ≡ 0) ⊎ (used (board_book b k) ≡ 1) → (if t then used (board_book b k) else 0) ≤ 1
+    go : (t : Bool) → (count_used (board_book b k) ≡ 0) ⊎ (count_used (board_book b k) ≡ 1) → (if t then count_used (board_book b k) else 0) ≤ 1
     go true (inl z) = omega (arith, z)
     go true (inr one) = omega (arith, one)
     go false u = omega arith
@@ -41,7 +41,7 @@ pub record Moves (o n g sv : ℕ) (last : BoardState) (v : View) (m h t : ℕ) (
   pub waiting : IsTrue (rises_from (length now.log + 1) now.pending)
   pub grown : o ≤ length now.log
   pub rooms : (room : RoomFor) → room_times room last.rooms + room_times room w.knows.rooms ≡ room_times room now.rooms + room_times room v.knows.rooms
-  pub owners : (k : ℕ) → owed o last k + times k (numbers w.knows.own) ≡ owed o now k + times k (numbers v.knows.own)
+  pub owners : (k : ℕ) → owed_count o last k + times k (numbers w.knows.own) ≡ owed_count o now k + times k (numbers v.knows.own)
 
 -- all that is counted of views is the same
 pub record SameTotals (views others : List View) : Type 0 where
@@ -164,14 +164,14 @@ module _ (o n g sv : ℕ) (last : BoardState) (views : List View) (sums : Sums o
         }
       where
         own_at : (k : ℕ) (b : Bool) → nat_lt o k ≡ b
-            → (if b then used (board_book last k) else 0) + times k (numbers (stored_at (board_book left) v.knows.held ++ v.knows.own)) ≡ (if b then used (board_book left k) else 0) + times k (numbers v.knows.own)
+            → (if b then count_used (board_book last k) else 0) + times k (numbers (stored_at (board_book left) v.knows.held ++ v.knows.own)) ≡ (if b then count_used (board_book left k) else 0) + times k (numbers v.knows.own)
         own_at k b is = go b is
           where
             both : times k (numbers (stored_at (board_book left) v.knows.held ++ v.knows.own)) ≡ times k (numbers (stored_at (board_book left) v.knows.held)) + times k (numbers v.knows.own)
             both = ap (times k) (numbers-append (stored_at (board_book left) v.knows.held) v.knows.own) ∙ times-append k (numbers (stored_at (board_book left) v.knows.held)) (numbers v.knows.own)
 
             go : (b : Bool) → nat_lt o k ≡ b
-                → (if b then used (board_book last k) else 0) + times k (numbers (stored_at (board_book left) v.knows.held ++ v.knows.own)) ≡ (if b then used (board_book left k) else 0) + times k (numbers v.knows.own)
+                → (if b then count_used (board_book last k) else 0) + times k (numbers (stored_at (board_book left) v.knows.held ++ v.knows.own)) ≡ (if b then count_used (board_book left k) else 0) + times k (numbers v.knows.own)
             go true is =
                 let a = stored_once last left v.knows.held k n (may.after.book.kept k) (may.stored k) (held_within k) in omega (arith, a, both)
             go false is =

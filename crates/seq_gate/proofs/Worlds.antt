@@ -8,7 +8,7 @@ use Rattle.sg_history.specs.declared.entries.Entry.{Entry}
 use Rattle.sg_history.specs.Board.{BoardState, board_book}
 use Rattle.sg_history.specs.Book.{entry_or, waiting_at}
 use Rattle.sg_history.specs.World.{IsSound, once_among, rises_from}
-use Rattle.seq_gate.specs.Counts.{once, times, stands, total}
+use Rattle.seq_gate.specs.Counts.{count_once, times, stands, total}
 use Rattle.seq_gate.specs.Laws.{all_held, world_of_gate}
 use Rattle.seq_gate.specs.Rule.{Sums}
 use Rattle.seq_gate.specs.declared.known.View.{View}
@@ -17,7 +17,7 @@ use Rattle.seq_gate.proofs.Holding.{in_log, get_beyond, rises_parts, rises_free}
 
 count_held : (k : ℕ) (ns : List ℕ) → count_by (λ (n : ℕ). nat_eq n k) ns ≡ times k ns
 count_held k [] = refl
-count_held k (n ∷ ns) = sum_by-cons (λ (x : ℕ). cond (nat_eq x k) 1 0) n ns ∙ ap (λ (x : ℕ). once (nat_eq n k) + x) (count_held k ns)
+count_held k (n ∷ ns) = sum_by-cons (λ (x : ℕ). cond (nat_eq x k) 1 0) n ns ∙ ap (λ (x : ℕ). count_once (nat_eq n k) + x) (count_held k ns)
 
 held_by_all : (k : ℕ) (views : List View) → times k (all_held views) ≡ total (λ (v : View). times k v.knows.held) views
 held_by_all k [] = refl
@@ -29,9 +29,9 @@ count_waiting k low [] up = refl
 count_waiting k low (w ∷ ws) up =
     sum_by-cons (λ (x : Waiting). cond (nat_eq x.number k) 1 0) w ws ∙ go (tick_cases k w.number) (count_waiting k w.number ws (rises_parts low w ws up).1) (rises_parts low w ws up).1
   where
-    go : ((w.number ≡ k) × (once (nat_eq w.number k) ≡ 1)) ⊎ ((w.number ≢ k) × (once (nat_eq w.number k) ≡ 0))
+    go : ((w.number ≡ k) × (count_once (nat_eq w.number k) ≡ 1)) ⊎ ((w.number ≢ k) × (count_once (nat_eq w.number k) ≡ 0))
         → count_by (λ (x : Waiting). nat_eq x.number k) ws ≡ stands (waiting_at ws k) → IsTrue (rises_from w.number ws)
-        → once (nat_eq w.number k) + count_by (λ (x : Waiting). nat_eq x.number k) ws ≡ stands (if nat_eq w.number k then Some w.entry else waiting_at ws k)
+        → count_once (nat_eq w.number k) + count_by (λ (x : Waiting). nat_eq x.number k) ws ≡ stands (if nat_eq w.number k then Some w.entry else waiting_at ws k)
     go (inl e) rest above =
         let one = e.1 in
         let same = e.0 in

@@ -7,13 +7,13 @@ use Rattle.sg_history.specs.declared.room.RoomFor.{RoomFor}
 use Rattle.sg_history.specs.Rooms.{without_room}
 
 -- once where it is so, else not at all
-abbrev pub once : Bool → ℕ
-once b = if b then 1 else 0
+abbrev pub count_once : Bool → ℕ
+count_once b = if b then 1 else 0
 
 -- how often a number stands in a list
 abbrev pub times : ℕ → List ℕ → ℕ
 times k [] = 0
-times k (n ∷ ns) = once (nat_eq n k) + times k ns
+times k (n ∷ ns) = count_once (nat_eq n k) + times k ns
 
 -- the numbers of entries
 abbrev pub numbers : List Waiting → List ℕ
@@ -36,13 +36,13 @@ stands None = 0
 stands (Some e) = 1
 
 -- the same, where a sequence that was given up counts for none
-abbrev pub used : Option Entry → ℕ
-used None = 0
-used (Some e) = if is_unused e then 0 else 1
+abbrev pub count_used : Option Entry → ℕ
+count_used None = 0
+count_used (Some e) = if is_unused e then 0 else 1
 
 -- how often a number is one of the first so many from 0: once or not at all
 abbrev pub below : ℕ → ℕ → ℕ
-below k n = once (nat_lt k n)
+below k n = count_once (nat_lt k n)
 
 module _ {V : Type 0} where
   -- what the views have together

@@ -9,7 +9,7 @@ use Rattle.sg_history.specs.History.{Extends}
 use Rattle.sg_history.specs.World.{rises_from}
 use Rattle.sg_history.specs.Rooms.{room_times}
 use Rattle.seq_gate.specs.Boards.{HasAll}
-use Rattle.seq_gate.specs.Counts.{is_unused, times, numbers, used, without_rooms}
+use Rattle.seq_gate.specs.Counts.{is_unused, times, numbers, count_used, without_rooms}
 use Rattle.seq_gate.specs.declared.known.Known.{Known}
 
 -- the draws that a pass has, made ones included
@@ -17,8 +17,8 @@ abbrev pub share : Known → ℕ
 share p = p.left + p.made
 
 -- the first pass of a gate to a board: it has all draws, and has read the board
-abbrev pub first_known : BoardState → Known
-first_known board =
+abbrev pub first_pass : BoardState → Known
+first_pass board =
     record {
       opening = length board.log;
       left = 2 ^ 62;
@@ -93,8 +93,8 @@ abbrev pub longer : List Entry → List Entry → List Entry
 longer one other = if nat_le (length one) (length other) then other else one
 
 -- a pass that took in another
-abbrev pub joined : Known → Known → Known
-joined p other =
+abbrev pub joined_passes : Known → Known → Known
+joined_passes p other =
     record {
       opening = p.opening;
       left = p.left + other.left;
@@ -156,8 +156,8 @@ pub record MayLeave (p : Known) (found left : BoardState) : Type 0 where
   pub waiting : IsTrue (rises_from (length left.log + 1) left.pending)
 
 -- how often a number must be that of an own entry, where the log had so many entries when the gate was opened
-abbrev pub owed : ℕ → BoardState → ℕ → ℕ
-owed opening board k = if nat_lt opening k then used (board_book board k) else 0
+abbrev pub owed_count : ℕ → BoardState → ℕ → ℕ
+owed_count opening board k = if nat_lt opening k then count_used (board_book board k) else 0
 
 -- a board that a gate was closed with: nothing waits, and no room is outstanding; it comes after each board that was read, and
 -- has each own entry; beyond the entries that the gate was opened with, its entries are the own ones, each once, but for
@@ -167,4 +167,4 @@ pub record Closes (p : Known) (board : BoardState) : Type 0 where
   pub rooms : board.rooms ≡ []
   pub read : IsAfterAll p.read board
   pub own : HasAll board p.own
-  pub owners : (k : ℕ) → times k (numbers p.own) ≡ owed p.opening board k
+  pub owners : (k : ℕ) → times k (numbers p.own) ≡ owed_count p.opening board k

@@ -10,15 +10,15 @@ use Rattle.sg_history.specs.History.{Extends}
 use Rattle.sg_history.specs.World.{once_among, rises_from}
 use Rattle.sg_history.specs.Rooms.{room_times}
 use Rattle.seq_gate.specs.Boards.{HasAll}
-use Rattle.seq_gate.specs.Counts.{once, times, numbers, stands, below, total}
-use Rattle.seq_gate.specs.Passes.{first_known, share, owed}
+use Rattle.seq_gate.specs.Counts.{count_once, times, numbers, stands, below, total}
+use Rattle.seq_gate.specs.Passes.{first_pass, share, owed_count}
 use Rattle.seq_gate.specs.declared.known.Known.{Known}
 use Rattle.seq_gate.specs.declared.known.View.{View}
 
 -- how often a number is the ticket that a view has, if it has one
 abbrev pub is_ticket : ℕ → Option ℕ → ℕ
 is_ticket k None = 0
-is_ticket k (Some n) = once (nat_eq n k)
+is_ticket k (Some n) = count_once (nat_eq n k)
 
 -- one where there is one
 abbrev pub one_if_some : {X : Type 0} → Option X → ℕ
@@ -30,7 +30,7 @@ abbrev pub idle : Known → View
 idle p = record { knows = p; ticket = None; found = None; back = false }
 
 abbrev pub first_view : BoardState → View
-first_view board = idle (first_known board)
+first_view board = idle (first_pass board)
 
 -- a view that was joined
 abbrev pub spent : View
@@ -67,7 +67,7 @@ pub record Sums (opening n given served : ℕ) (last : BoardState) (views : List
   -- each room that is outstanding is that of one view
   pub rooms : (room : RoomFor) → total (λ v. room_times room v.knows.rooms) views ≡ room_times room last.rooms
   -- each entry beyond the opening ones, sequences given up apart, is an own one of exactly one view
-  pub owners : (k : ℕ) → total (λ v. times k (numbers v.knows.own)) views ≡ owed opening last k
+  pub owners : (k : ℕ) → total (λ v. times k (numbers v.knows.own)) views ≡ owed_count opening last k
 
 pub record IsSound {B : Type 0} (seen : B → BoardState) (opening : ℕ) (s : State (Option B) View) : Type 0 where
   pub n : ℕ

@@ -2,7 +2,7 @@
 use Rattle.std.specs.Prelude.{◌≡◌, ◌≢◌, ◌≤◌, ◌^◌, ◌%◌, ℕ, suc, true, false, [], ◌∷◌, Option, Some, None}
 use Rattle.atomic_table.specs.Table.{Step, Me}
 use Rattle.sg_history.specs.Board.{BoardState}
-use Rattle.seq_gate.specs.Passes.{share, drawn, drawn_in_turn, with_lowest_front, after_turn, split_from, split_off, joined, HasEachOnce, IsNew, IsAboveBook, Finds}
+use Rattle.seq_gate.specs.Passes.{share, drawn, drawn_in_turn, with_lowest_front, after_turn, split_from, split_off, joined_passes, HasEachOnce, IsNew, IsAboveBook, Finds}
 use Rattle.sg_history.specs.Board.{board_book}
 use Rattle.seq_gate.specs.declared.known.Known.{Known}
 use Rattle.seq_gate.specs.declared.known.View.{View}
@@ -73,4 +73,4 @@ abbrev pub view_split_off : View → View
 view_split_off v = record { knows = split_off v.knows; ticket = None; found = None; back = false }
 
 abbrev pub view_joined : View → View → View
-view_joined v other = knowing v (joined v.knows other.knows)
+view_joined v other = knowing v (joined_passes v.knows other.knows)

@@ -1,7 +1,7 @@
 //! The gate, and how it is opened and closed.
 
 ghost use Rattle.std.specs.Prelude.{◌≡◌, ◌≤◌, ◌^◌, [], length, IfOk};
-ghost use Rattle.seq_gate.specs.Passes.{first_known, share, Closes};
+ghost use Rattle.seq_gate.specs.Passes.{first_pass, share, Closes};
 
 use crate::kept::Kept;
 use crate::known::View;
@@ -46,7 +46,7 @@ pub fn open<B: Kept>(alloc: Global, board: B) -> Result<(Gate<B>, Pass<B>), Memo
     requires rooms { (B.seen board).rooms ≡ [] }
     requires short { length (B.seen board).log ≤ 2 ^ 62 }
     ensures gate { IfOk result (λ r. r.1.gate ≡ r.0) }
-    ensures knows { IfOk result (λ r. r.1.knows ≡ first_known (B.seen board)) }
+    ensures knows { IfOk result (λ r. r.1.knows ≡ first_pass (B.seen board)) }
 {
     boards();
     let front = board.front();

@@ -4,7 +4,7 @@ ghost use Rattle.std.specs.Prelude.{◌≡◌, ℕ, List};
 ghost use Rattle.sg_history.specs.Board.{BoardState, IsAfterAll};
 ghost use Rattle.sg_history.specs.World as worlds;
 ghost use Rattle.seq_gate.specs.Laws.{KeepsRule, Opens, ClosesWhole, world_of_gate};
-ghost use Rattle.seq_gate.specs.Passes.{drawn_in_turn, joined, Finds, StoresHeld, MayLeave};
+ghost use Rattle.seq_gate.specs.Passes.{drawn_in_turn, joined_passes, Finds, StoresHeld, MayLeave};
 ghost use Rattle.seq_gate.specs.Rule.{Sums};
 ghost use Rattle.seq_gate.specs.declared.known.Known.{Known};
 ghost use Rattle.seq_gate.specs.declared.known.View.{View};
@@ -40,6 +40,6 @@ pub fn turns()
 /// A board that comes after all that a joined pass has read comes after all that each of the two had read. So one that a gate is closed with
 /// comes after each board that any pass has read which was joined.
 pub fn joins()
-    ensures { (p other : Known) (board : BoardState) → IsAfterAll (joined p other).read board
+    ensures { (p other : Known) (board : BoardState) → IsAfterAll (joined_passes p other).read board
         → IsAfterAll p.read board × IsAfterAll other.read board }
 {}

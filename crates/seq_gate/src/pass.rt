@@ -1,7 +1,7 @@
 //! Passes out of turn.
 
 ghost use Rattle.std.specs.Prelude.{◌≡◌, ◌<◌, ◌≤◌, ◌^◌};
-ghost use Rattle.seq_gate.specs.Passes.{drawn, with_lowest_front, split_from, split_off, joined, HasEachOnce, IsNew, Finds};
+ghost use Rattle.seq_gate.specs.Passes.{drawn, with_lowest_front, split_from, split_off, joined_passes, HasEachOnce, IsNew, Finds};
 
 use crate::gate::Gate;
 use crate::kept::Kept;
@@ -108,7 +108,7 @@ impl<B: Kept> Pass<B> {
         requires here { self.old.gate ≡ gate.now }
         requires other { other.gate ≡ gate.now }
         ensures gate { self.new.gate ≡ self.old.gate }
-        ensures knows { self.new.knows ≡ joined self.old.knows other.knows }
+        ensures knows { self.new.knows ≡ joined_passes self.old.knows other.knows }
         ensures each { HasEachOnce self.new.knows }
     {
         let Pass { seat, left } = other;

@@ -39,12 +39,12 @@ use Rattle.session_core.specs.declared.replies.Awaited.TheVariants as awaited
 use Rattle.session_core.specs.declared.machine.Subscription.{Subscription}
 use Rattle.session_core.specs.declared.machine.Pending.{Pending}
 use Rattle.session_core.specs.declared.machine.Pending.TheVariants as pending
-use Rattle.session_core.specs.Acts.{chosen, reply_act, refusal_act, refusal_by, acceptance_act, is_proposed, answer_act, error_of, body_act, body_acts, offer_act}
+use Rattle.session_core.specs.Acts.{flagged_rows, reply_act, refusal_act, refusal_by, acceptance_act, is_proposed, answer_act, error_of, body_act, body_acts, offer_act}
 use Rattle.session_core.specs.Conduct.{AreOnOffer, IsWanted, requests_among, are_requests, AreAnswers, due_with, due_at, IsStillDue, feed_front, WantsFor, most_answers, is_answer, AreWithin, IsKept}
 use Rattle.session_core.specs.Fronts.{front_by}
 use Rattle.session_core.specs.Running.{Running, rest, is_none, is_silent, next_acts, next_requests, next_feed_with}
 use Rattle.session_core.specs.State.{Machine, AwaitsBy, Awaits, IsReply}
-use Rattle.session_core.specs.Transitions.{Done, puts, asks, goes_on, looks_again, answered_by, asker_of, refused, on_sub_changes, on_changes, on_served, on_request, answers, wanted_of, most_ancestors, on_wanted, on_reply, first_of, on_first_look, on_next_look, on_fed, on_bodies_of, on_bodies, on_answer, on_idle, Does, DoesByMessage}
+use Rattle.session_core.specs.Transitions.{Done, puts, asks, goes_on_feed, looks_again, answered_by, asker_of, refused, on_sub_changes, on_changes, on_served, on_request, answers, wanted_of, most_ancestors, on_wanted, on_reply, first_running, on_first_look, on_next_look, on_fed, on_bodies_of, on_bodies, on_answer, on_idle, DoesForEvent, DoesByMessage}
 use Rattle.session_core.proofs.Awaiting.{awaits_reply}
 
 -- ---- acts
@@ -174,7 +174,7 @@ next_front (row ∷ rows) requests r most a = a
 goes : (m : Machine) (due : Option ℕ) (fronts : List ℕ) (acts : List Act) (requests : ℕ) (r : Running)
     → AreAnswers due acts → requests ≡ m.requests + requests_among acts
     → ((most : ℕ) → feed_front m.feed ≤ most → AreWithin most fronts → r.front ≤ most)
-    → Conducted m due fronts (goes_on m acts requests r)
+    → Conducted m due fronts (goes_on_feed m acts requests r)
 goes m due fronts acts requests r are counted within = record {
   puts = answers_on due acts (next_acts m.version r) are (next_requested m.version r);
   still = inl refl;
@@ -238,7 +238,7 @@ requested m message (Ok r) = served m (asker_of message) r
 within_rest : (m : Machine) (r : Running) → m.feed ≡ Some r → (most : ℕ) → feed_front m.feed ≤ most → AreWithin most [] → r.front ≤ most
 within_rest m r e most a b = subst (λ f. feed_front f ≤ most) e a
 
-wanted_rows_are : (m : Machine) (message : Message) (r : Running) (rows : List Row) → m.feed ≡ Some r → ((flags : List Bool) × (rows ≡ chosen (take r.batch r.rows) flags)) → Conducted m None [] (on_wanted m message r rows)
+wanted_rows_are : (m : Machine) (message : Message) (r : Running) (rows : List Row) → m.feed ≡ Some r → ((flags : List Bool) × (rows ≡ flagged_rows (take r.batch r.rows) flags)) → Conducted m None [] (on_wanted m message r rows)
 wanted_rows_are m message r [] e some =
     are_answered (r.continuous && is_none (rest r).rows) m None [] [] m.requests (rest r) tt (sym (add-zero m.requests)) (within_rest m r e)
 wanted_rows_are m message r (row ∷ rows) e some =
@@ -262,7 +262,7 @@ by_message m message done false e = subst (Conducted m None []) (sym e) (replied
 first_look : (m : Machine) (asked : Subscription) (answer : Fed) → Conducted m (Some asked.asker.number) (front_of answer ∷ []) (on_first_look m asked answer)
 first_look m asked (fed.Future front) = refusal m asked.asker (front ∷ []) (errors.SincePast400 front)
 first_look m asked (fed.Rows front rows) =
-    goes m (Some asked.asker.number) (front ∷ []) (acceptance_act asked.asker) m.requests (first_of asked rows front)
+    goes m (Some asked.asker.number) (front ∷ []) (acceptance_act asked.asker) m.requests (first_running asked rows front)
     (reply_due asked.asker kinds.Rpy ok_payload refl)
     (omega (arith, reply_count asked.asker kinds.Rpy ok_payload))
     (λ most a b. b.0)
@@ -376,7 +376,7 @@ fewer_replied m e pending.More is = absurd is
 fewer_replied m e (pending.Bodies rows) is = absurd is
 fewer_replied m e (pending.Reply asker to) is = omega arith
 
-pub fewer : (m : Machine) (e : Event) (done : Done) → Awaits m e → Does m e done → is_answer e ≡ true → most_answers done.after.pending < most_answers m.pending
+pub fewer : (m : Machine) (e : Event) (done : Done) → Awaits m e → DoesForEvent m e done → is_answer e ≡ true → most_answers done.after.pending < most_answers m.pending
 fewer m (event.Whole message) done awaits does is = absurd (false≢true is)
 fewer m (event.Idle front) done awaits does is = absurd (false≢true is)
 fewer m (event.Fed answer) done awaits does is = subst (λ (d : Done). most_answers d.after.pending < most_answers m.pending) (sym does) (fewer_fed m answer m.pending awaits)
@@ -392,7 +392,7 @@ fewer m (event.Set answer) done awaits does is =
 
 -- ---- all of them
 
-pub conducted : (m : Machine) (e : Event) (done : Done) → Awaits m e → Does m e done → Conducted m (due_at m.pending e) (front_by e) done
+pub conducted : (m : Machine) (e : Event) (done : Done) → Awaits m e → DoesForEvent m e done → Conducted m (due_at m.pending e) (front_by e) done
 conducted m (event.Whole message) done awaits does = by_message m message done (is_request message.kind) does
 conducted m (event.Idle front) done awaits does = subst (Conducted m None (front ∷ [])) (sym does) (idled m front m.feed refl)
 conducted m (event.Fed answer) done awaits does = subst (Conducted m (due_with m.pending) (front_of answer ∷ [])) (sym does) (fed_to m answer m.pending)
@@ -407,7 +407,7 @@ conducted m (event.Got k) done awaits does =
 conducted m (event.Set answer) done awaits does =
     subst (Conducted m (due_with m.pending) (front_by (event.Set answer))) (sym does) (answered_to m (event.Set answer) (front_by (event.Set answer)) m.pending)
 
-pub kept : (m : Machine) (e : Event) (done : Done) → Awaits m e → Does m e done → IsKept m e done
+pub kept : (m : Machine) (e : Event) (done : Done) → Awaits m e → DoesForEvent m e done → IsKept m e done
 kept m e done awaits does =
     let c : Conducted m (due_at m.pending e) (front_by e) done = conducted m e done awaits does in
     record { user = c.user; version = c.version; strict = c.strict; requests = c.requests; front = c.front }

@@ -40,31 +40,31 @@ use Rattle.session_core.specs.declared.replies.Awaited.TheVariants as awaited
 use Rattle.session_core.specs.declared.machine.Subscription.{Subscription}
 use Rattle.session_core.specs.declared.machine.Pending.{Pending}
 use Rattle.session_core.specs.declared.machine.Pending.TheVariants as pending
-use Rattle.session_core.specs.Acts.{messages_from, request_message, reply_message, error_of, reply_act, refusal_act, acceptance_act, answer_act, body_act, body_acts, offer_act}
+use Rattle.session_core.specs.Acts.{messages_from, act_request, act_reply, error_of, reply_act, refusal_act, acceptance_act, answer_act, body_act, body_acts, offer_act}
 use Rattle.session_core.proofs.Replying.{answer_by}
 use Rattle.session_core.specs.Conduct.{requests_among, WantsFor}
-use Rattle.session_core.specs.Feeds.{AreOffered, not_offered, rows_at, feed_look, feed_looks, LeadsFeed, RunsFeed}
+use Rattle.session_core.specs.Feeds.{AreRowsOffered, not_offered, feed_rows_at, feed_look, feed_looks, LeadsFeed, RunsFeed}
 use Rattle.session_core.specs.Right.{IsRight, AreRight}
 use Rattle.session_core.specs.Running.{Running, rest, is_none, is_silent, waits, next_since, next_acts, next_feed, next_feed_with}
 use Rattle.session_core.specs.State.{Machine, new_machine, AwaitsBy, Awaits}
-use Rattle.session_core.specs.Steps.{Step, Steps, Leads, put_by, wanted_after}
-use Rattle.session_core.specs.Transitions.{Done, puts, asks, goes_on, looks_again, answered_by, answered, asker_of, refused, on_sub_changes, on_changes, on_served, on_request, answers, wanted_of, most_ancestors, on_wanted, on_reply, first_of, on_first_look, on_next_look, on_fed, on_bodies_of, on_bodies, on_answer, on_idle, Does, DoesByMessage}
+use Rattle.session_core.specs.Steps.{SessionStep, Steps, Leads, put_by, wanted_after}
+use Rattle.session_core.specs.Transitions.{Done, puts, asks, goes_on_feed, looks_again, answered_by, answer_done, asker_of, refused, on_sub_changes, on_changes, on_served, on_request, answers, wanted_of, most_ancestors, on_wanted, on_reply, first_running, on_first_look, on_next_look, on_fed, on_bodies_of, on_bodies, on_answer, on_idle, DoesForEvent, DoesByMessage}
 use Rattle.session_core.proofs.Conducts.{conducted}
 
 -- ---- messages
 
-offered_on : (version : Version) (ms ns : List Message) (rows more : List Row) → AreOffered version ms rows → AreOffered version ns more → AreOffered version (ms ++ ns) (rows ++ more)
-offered_on version [] ns rows more a b = subst (λ rs. AreOffered version ns (rs ++ more)) (sym a) b
+offered_on : (version : Version) (ms ns : List Message) (rows more : List Row) → AreRowsOffered version ms rows → AreRowsOffered version ns more → AreRowsOffered version (ms ++ ns) (rows ++ more)
+offered_on version [] ns rows more a b = subst (λ rs. AreRowsOffered version ns (rs ++ more)) (sym a) b
 offered_on version (m ∷ ms) ns rows more (inl (not, a)) b = inl (not, offered_on version ms ns rows more a b)
 offered_on version (m ∷ ms) ns rows more (inr (first, later, is, payload, rows_are, a)) b =
     inr (first, later ++ more, is, payload, ap (λ rs. rs ++ more) rows_are ∙ append_assoc first later more, offered_on version ms ns later more a b)
 
 messages_on : (n : ℕ) (acts more : List Act) → messages_from n (acts ++ more) ≡ messages_from n acts ++ messages_from (n + requests_among acts) more
 messages_on n [] more = ap (λ k. messages_from k more) (sym (add-zero n))
-messages_on n (act.Reply to kind urgent payload ∷ acts) more = ap (λ ms. reply_message to kind urgent payload ∷ ms) (messages_on n acts more)
+messages_on n (act.Reply to kind urgent payload ∷ acts) more = ap (λ ms. act_reply to kind urgent payload ∷ ms) (messages_on n acts more)
 messages_on n (act.Request payload no_reply ∷ acts) more =
     let count : n + 1 + requests_among acts ≡ n + (1 + requests_among acts) = omega arith in
-    ap (λ ms. request_message n no_reply payload ∷ ms) (messages_on (n + 1) acts more ∙ ap (λ k. messages_from (n + 1) acts ++ messages_from k more) count)
+    ap (λ ms. act_request n no_reply payload ∷ ms) (messages_on (n + 1) acts more ∙ ap (λ k. messages_from (n + 1) acts ++ messages_from k more) count)
 messages_on n (act.Want want ∷ acts) more = messages_on n acts more
 
 -- acts that offer nothing
@@ -81,7 +81,7 @@ no_request kinds.Err reply is = false≢true is
 no_request kinds.AckMsg reply is = false≢true is
 no_request kinds.AckRpy reply is = false≢true is
 
-none_offered : (version : Version) (n : ℕ) (acts : List Act) → OffersNone acts → AreOffered version (messages_from n acts) []
+none_offered : (version : Version) (n : ℕ) (acts : List Act) → OffersNone acts → AreRowsOffered version (messages_from n acts) []
 none_offered version n [] none = refl
 none_offered version n (act.Reply to kind urgent payload ∷ acts) (reply, none) = inl ((λ is. no_request kind reply is.0), none_offered version n acts none)
 none_offered version n (act.Request payload no_reply ∷ acts) (other, none) = inl ((λ is. other is.1), none_offered version (n + 1) acts none)
@@ -137,11 +137,11 @@ last_of true true c e = e
 last_of true false c e = absurd (false≢true e)
 last_of false b c e = absurd (false≢true e)
 
-next_offered_by : (version : Version) (n : ℕ) (r : Running) (b : Bool) → is_silent r ≡ b → AreOffered version (messages_from n (if b then [] else offer_act r.rows r.batch version ∷ [])) (take r.batch r.rows)
+next_offered_by : (version : Version) (n : ℕ) (r : Running) (b : Bool) → is_silent r ≡ b → AreRowsOffered version (messages_from n (if b then [] else offer_act r.rows r.batch version ∷ [])) (take r.batch r.rows)
 next_offered_by version n r true silent = take_none r.batch r.rows (none_left r.rows (last_of r.caught_up r.continuous (is_none r.rows) silent))
 next_offered_by version n r false silent = inr (take r.batch r.rows, [], (refl, refl), refl, sym (append-nil (take r.batch r.rows)), refl)
 
-next_offered : (version : Version) (n : ℕ) (r : Running) → AreOffered version (messages_from n (next_acts version r)) (take r.batch r.rows)
+next_offered : (version : Version) (n : ℕ) (r : Running) → AreRowsOffered version (messages_from n (next_acts version r)) (take r.batch r.rows)
 next_offered version n r = next_offered_by version n r (is_silent r) refl
 
 -- what is left then
@@ -171,8 +171,8 @@ Runs asked fronts (Some r) awaited = (r.options ≡ asked.options) × ((earlier 
 -- what was offered so far, and what is left
 pub record Offering (h : List Entry) (user : List ℕ) (version : Version) (asked : Subscription) (messages : List Message) (fronts : List ℕ) (m : Machine) : Type 0 where
   pub offered : List Row
-  pub are : AreOffered version messages offered
-  pub sum : offered ++ not_offered m.feed ≡ rows_at h user asked.since asked.options fronts
+  pub are : AreRowsOffered version messages offered
+  pub sum : offered ++ not_offered m.feed ≡ feed_rows_at h user asked.since asked.options fronts
   pub runs : Runs asked fronts m.feed m.pending
   pub user_is : m.user ≡ user
   pub version_is : m.version ≡ version
@@ -187,7 +187,7 @@ stays : (h : List Entry) (user : List ℕ) (version : Version) (asked : Subscrip
     → After h user version asked messages fronts m done
 stays h user version asked messages fronts m r done so_far runs none same still user_same version_same = record {
   offered = so_far.offered;
-  are = subst (AreOffered version (messages ++ messages_from (m.requests + 1) done.acts)) (append-nil so_far.offered)
+  are = subst (AreRowsOffered version (messages ++ messages_from (m.requests + 1) done.acts)) (append-nil so_far.offered)
       (offered_on version messages (messages_from (m.requests + 1) done.acts) so_far.offered [] so_far.are (none_offered version (m.requests + 1) done.acts none));
   sum = ap (λ rs. so_far.offered ++ rs) same ∙ so_far.sum;
   runs = still;
@@ -221,17 +221,17 @@ next_runs asked fronts (row ∷ rows) n r options front = (options, front, tt)
 
 -- a feed goes on with these rows, which are all that is left to offer
 goes : (h : List Entry) (user : List ℕ) (version : Version) (asked : Subscription) (messages : List Message) (fronts : List ℕ) (m : Machine) (acts : List Act) (requests : ℕ) (r : Running) (offered : List Row)
-    → AreOffered version messages offered → offered ++ r.rows ≡ rows_at h user asked.since asked.options fronts
+    → AreRowsOffered version messages offered → offered ++ r.rows ≡ feed_rows_at h user asked.since asked.options fronts
     → r.options ≡ asked.options → ((earlier : List ℕ) × (fronts ≡ r.front ∷ earlier))
     → m.user ≡ user → m.version ≡ version → OffersNone acts
-    → After h user version asked messages fronts m (goes_on m acts requests r)
+    → After h user version asked messages fronts m (goes_on_feed m acts requests r)
 goes h user version asked messages fronts m acts requests r offered are sum options front user_is version_is none = record {
   offered = offered ++ take r.batch r.rows;
   are = offered_on version messages (messages_from (m.requests + 1) (acts ++ next_acts m.version r)) offered (take r.batch r.rows) are
-      (subst (λ ms. AreOffered version ms (take r.batch r.rows)) (sym (messages_on (m.requests + 1) acts (next_acts m.version r)))
+      (subst (λ ms. AreRowsOffered version ms (take r.batch r.rows)) (sym (messages_on (m.requests + 1) acts (next_acts m.version r)))
       (offered_on version (messages_from (m.requests + 1) acts) (messages_from (m.requests + 1 + requests_among acts) (next_acts m.version r)) [] (take r.batch r.rows)
       (none_offered version (m.requests + 1) acts none)
-      (subst (λ v. AreOffered version (messages_from (m.requests + 1 + requests_among acts) (next_acts v r)) (take r.batch r.rows)) (sym version_is) (next_offered version (m.requests + 1 + requests_among acts) r))));
+      (subst (λ v. AreRowsOffered version (messages_from (m.requests + 1 + requests_among acts) (next_acts v r)) (take r.batch r.rows)) (sym version_is) (next_offered version (m.requests + 1 + requests_among acts) r))));
   sum = ap (λ rs. (offered ++ take r.batch r.rows) ++ rs) (next_left requests r) ∙ append_assoc offered (take r.batch r.rows) (drop r.batch r.rows)
       ∙ ap (λ rs. offered ++ rs) (take-append-drop r.batch r.rows) ∙ sum;
   runs = next_runs asked fronts r.rows requests r options front;
@@ -267,7 +267,7 @@ answered_with h user version asked messages fronts m r acts requests false is so
     goes h user version asked messages fronts m acts requests (rest r) so_far.offered so_far.are (ap (λ g. so_far.offered ++ not_offered g) (sym e) ∙ so_far.sum) f.0 f.1 so_far.user_is so_far.version_is none
 
 rows_answered : (h : List Entry) (user : List ℕ) (version : Version) (asked : Subscription) (messages : List Message) (fronts : List ℕ) (m : Machine) (r : Running) (acts : List Act) (requests : ℕ)
-    → Offering h user version asked messages fronts m → m.feed ≡ Some r → OffersNone acts → After h user version asked messages fronts m (answered m acts requests (rest r))
+    → Offering h user version asked messages fronts m → m.feed ≡ Some r → OffersNone acts → After h user version asked messages fronts m (answer_done m acts requests (rest r))
 rows_answered h user version asked messages fronts m r acts requests so_far e none =
     answered_with h user version asked messages fronts m r acts requests (r.continuous && is_none (rest r).rows) refl so_far e none
 
@@ -329,16 +329,16 @@ message_stay h user version asked messages fronts m r message done false so_far 
 -- a feed has the rows of its next look
 more_rows : (h : List Entry) (user : List ℕ) (version : Version) (asked : Subscription) (messages : List Message) (fronts : List ℕ) (m : Machine) (r : Running) (front : ℕ) (rows : List Row)
     → Offering h user version asked messages fronts m → m.feed ≡ Some r → m.pending ≡ pending.More → rows ≡ feed (past h front) user (plain r.front) r.options
-    → After h user version asked messages (front ∷ fronts) m (goes_on m [] m.requests (record r { rows = rows; front = front }))
+    → After h user version asked messages (front ∷ fronts) m (goes_on_feed m [] m.requests (record r { rows = rows; front = front }))
 more_rows h user version asked messages fronts m r front rows so_far e awaited is =
     let f : Runs asked fronts (Some r) pending.More = subst (Runs asked fronts (Some r)) awaited (facts h user version asked messages fronts m r so_far e) in
-    let all : so_far.offered ≡ rows_at h user asked.since asked.options fronts =
+    let all : so_far.offered ≡ feed_rows_at h user asked.since asked.options fronts =
     sym (append-nil so_far.offered) ∙ ap (λ rs. so_far.offered ++ rs) (sym (drop_none r.batch r.rows (none_left r.rows f.2)) ∙ ap not_offered (sym e)) ∙ so_far.sum in
-    let sum : so_far.offered ++ rows ≡ rows_at h user asked.since asked.options (front ∷ r.front ∷ f.1.0) =
-    ap (λ rs. rs ++ rows) (all ∙ ap (rows_at h user asked.since asked.options) f.1.1)
-    ∙ ap (λ rs. rows_at h user asked.since asked.options (r.front ∷ f.1.0) ++ rs) (is ∙ ap (feed (past h front) user (plain r.front)) f.0) in
+    let sum : so_far.offered ++ rows ≡ feed_rows_at h user asked.since asked.options (front ∷ r.front ∷ f.1.0) =
+    ap (λ rs. rs ++ rows) (all ∙ ap (feed_rows_at h user asked.since asked.options) f.1.1)
+    ∙ ap (λ rs. feed_rows_at h user asked.since asked.options (r.front ∷ f.1.0) ++ rs) (is ∙ ap (feed (past h front) user (plain r.front)) f.0) in
     goes h user version asked messages (front ∷ fronts) m [] m.requests (record r { rows = rows; front = front }) so_far.offered so_far.are
-    (sum ∙ ap (λ fs. rows_at h user asked.since asked.options (front ∷ fs)) (sym f.1.1)) f.0 (fronts, refl) so_far.user_is so_far.version_is tt
+    (sum ∙ ap (λ fs. feed_rows_at h user asked.since asked.options (front ∷ fs)) (sym f.1.1)) f.0 (fronts, refl) so_far.user_is so_far.version_is tt
 
 abbrev feed_by : List Entry → List ℕ → ℕ → Option Running → List Row
 feed_by h user front None = []
@@ -404,7 +404,7 @@ idle_waits feed_runs r (pending.Reply asker to) front e a = absurd a
 -- ---- each event
 
 event_stay : (h : List Entry) (user : List ℕ) (version : Version) (program : Program) (strict : Bool) (asked : Subscription) (messages : List Message) (fronts : List ℕ) (m : Machine) (r : Running) (x : Event) (done : Done) (wanted : Option Want)
-    → Offering h user version asked messages fronts m → m.feed ≡ Some r → Awaits m x → Does m x done → WantsFor m.feed m.pending wanted → IsRight h user program strict wanted x
+    → Offering h user version asked messages fronts m → m.feed ≡ Some r → Awaits m x → DoesForEvent m x done → WantsFor m.feed m.pending wanted → IsRight h user program strict wanted x
     → After h user version asked messages (feed_look x ++ fronts) m done
 event_stay h user version program strict asked messages fronts m r (event.Whole message) done wanted so_far e a does w right = message_stay h user version asked messages fronts m r message done (is_request message.kind) so_far e does
 event_stay h user version program strict asked messages fronts m r (event.Idle front) done wanted so_far e a does w right =
@@ -422,7 +422,7 @@ event_stay h user version program strict asked messages fronts m r (event.Got k)
 event_stay h user version program strict asked messages fronts m r (event.Set answer) done wanted so_far e a does w right =
     subst (After h user version asked messages fronts m) (sym does) (answer_stay h user version asked messages fronts m r (event.Set answer) m.pending so_far e)
 
-step_stay : (h : List Entry) (user : List ℕ) (version : Version) (program : Program) (strict : Bool) (asked : Subscription) (messages : List Message) (fronts : List ℕ) (m : Machine) (r : Running) (s : Step) (after : Machine) (wanted : Option Want)
+step_stay : (h : List Entry) (user : List ℕ) (version : Version) (program : Program) (strict : Bool) (asked : Subscription) (messages : List Message) (fronts : List ℕ) (m : Machine) (r : Running) (s : SessionStep) (after : Machine) (wanted : Option Want)
     → Offering h user version asked messages fronts m → m.feed ≡ Some r → Steps m s after → WantsFor m.feed m.pending wanted → IsRight h user program strict wanted s.event
     → Offering h user version asked (messages ++ s.puts) (feed_look s.event ++ fronts) after
 step_stay h user version program strict asked messages fronts m r s after wanted so_far e made w right =
@@ -433,20 +433,20 @@ step_stay h user version program strict asked messages fronts m r s after wanted
 -- ---- all steps
 
 -- what is wanted after steps is what is then awaited
-wants_after : (user : List ℕ) (version : Version) (strict : Bool) (steps : List Step) (m : Machine) → Leads (new_machine user version strict) steps m → WantsFor m.feed m.pending (wanted_after steps)
+wants_after : (user : List ℕ) (version : Version) (strict : Bool) (steps : List SessionStep) (m : Machine) → Leads (new_machine user version strict) steps m → WantsFor m.feed m.pending (wanted_after steps)
 wants_after user version strict [] m leads = subst (λ (m : Machine). WantsFor m.feed m.pending None) (sym leads) tt
 wants_after user version strict (s ∷ steps) m (before, leads, made) =
     subst (λ (m : Machine). WantsFor m.feed m.pending s.want) (sym made.leads)
     (subst (WantsFor made.done.after.feed made.done.after.pending) (sym made.want) (conducted before s.event made.done made.awaited made.does).wants)
 
-same_user : (user : List ℕ) (version : Version) (strict : Bool) (steps : List Step) (m : Machine) → Leads (new_machine user version strict) steps m → (m.user ≡ user) × (m.version ≡ version)
+same_user : (user : List ℕ) (version : Version) (strict : Bool) (steps : List SessionStep) (m : Machine) → Leads (new_machine user version strict) steps m → (m.user ≡ user) × (m.version ≡ version)
 same_user user version strict [] m leads = (ap (λ (m : Machine). m.user) leads, ap (λ (m : Machine). m.version) leads)
 same_user user version strict (s ∷ steps) m (before, leads, made) =
     let earlier : (before.user ≡ user) × (before.version ≡ version) = same_user user version strict steps before leads in
     let c = conducted before s.event made.done made.awaited made.does in
     (ap (λ (m : Machine). m.user) made.leads ∙ c.user ∙ earlier.0, ap (λ (m : Machine). m.version) made.leads ∙ c.version ∙ earlier.1)
 
-leads_on : (start first : Machine) (earlier : List Step) → Leads start earlier first → (more : List Step) (m : Machine) → LeadsFeed first more m → Leads start (more ++ earlier) m
+leads_on : (start first : Machine) (earlier : List SessionStep) → Leads start earlier first → (more : List SessionStep) (m : Machine) → LeadsFeed first more m → Leads start (more ++ earlier) m
 leads_on start first earlier leads [] m e = subst (Leads start earlier) (sym e) leads
 leads_on start first earlier leads (s ∷ more) m (before, feeds, runs, made) = (before, leads_on start first earlier leads more before feeds, made)
 
@@ -462,23 +462,23 @@ rows_of_first h user program strict asked front rows feed_runs (Some (want.Propo
 rows_of_first h user program strict asked front rows feed_runs (Some (want.GetCheckpoint client)) w right = absurd w
 rows_of_first h user program strict asked front rows feed_runs (Some (want.SetCheckpoint client rev body)) w right = absurd w
 
-first_offer : (h : List Entry) (user : List ℕ) (version : Version) (program : Program) (strict : Bool) (asked : Subscription) (front : ℕ) (rows : List Row) (before : Machine) (s : Step) (first : Machine) (wanted : Option Want)
+first_offer : (h : List Entry) (user : List ℕ) (version : Version) (program : Program) (strict : Bool) (asked : Subscription) (front : ℕ) (rows : List Row) (before : Machine) (s : SessionStep) (first : Machine) (wanted : Option Want)
     → before.user ≡ user → before.version ≡ version → before.pending ≡ pending.Feed asked → s.event ≡ event.Fed (fed.Rows front rows) → Steps before s first
     → WantsFor before.feed before.pending wanted → IsRight h user program strict wanted s.event
     → Offering h user version asked s.puts (front ∷ []) first
 first_offer h user version program strict asked front rows before s first wanted user_is version_is awaited came made w right =
     let does : made.done ≡ on_first_look before asked (fed.Rows front rows) =
-    subst (λ p. made.done ≡ on_fed before (fed.Rows front rows) p) awaited (subst (λ x. Does before x made.done) came made.does) in
+    subst (λ p. made.done ≡ on_fed before (fed.Rows front rows) p) awaited (subst (λ x. DoesForEvent before x made.done) came made.does) in
     let are : rows ≡ feed (past h front) user asked.since asked.options =
     rows_of_first h user program strict asked front rows before.feed wanted (subst (λ p. WantsFor before.feed p wanted) awaited w) (subst (IsRight h user program strict wanted) came right) in
     subst (λ ms. Offering h user version asked ms (front ∷ []) first) (sym made.puts)
     (subst (Offering h user version asked (messages_from (before.requests + 1) made.done.acts) (front ∷ [])) (sym made.leads)
     (subst (After h user version asked [] (front ∷ []) before) (sym does)
-    (goes h user version asked [] (front ∷ []) before (acceptance_act asked.asker) before.requests (first_of asked rows front) [] refl are refl ([], refl) user_is version_is
+    (goes h user version asked [] (front ∷ []) before (acceptance_act asked.asker) before.requests (first_running asked rows front) [] refl are refl ([], refl) user_is version_is
     (reply_none asked.asker kinds.Rpy _ refl))))
 
 -- one step more
-one_more : (h : List Entry) (user : List ℕ) (version : Version) (program : Program) (strict : Bool) (asked : Subscription) (messages : List Message) (fronts : List ℕ) (before : Machine) (s : Step) (after : Machine) (wanted : Option Want) (f : Option Running)
+one_more : (h : List Entry) (user : List ℕ) (version : Version) (program : Program) (strict : Bool) (asked : Subscription) (messages : List Message) (fronts : List ℕ) (before : Machine) (s : SessionStep) (after : Machine) (wanted : Option Want) (f : Option Running)
     → before.feed ≡ f → IsSome f → Offering h user version asked messages fronts before → Steps before s after → WantsFor before.feed before.pending wanted → IsRight h user program strict wanted s.event
     → Offering h user version asked (messages ++ s.puts) (feed_look s.event ++ fronts) after
 one_more h user version program strict asked messages fronts before s after wanted None e runs so_far made w right = absurd (false≢true runs)
@@ -486,9 +486,9 @@ one_more h user version program strict asked messages fronts before s after want
     step_stay h user version program strict asked messages fronts before r s after wanted so_far e made w right
 
 -- and goes on
-feed_goes : (h : List Entry) (user : List ℕ) (version : Version) (program : Program) (strict : Bool) (asked : Subscription) (earlier : List Step) (s : Step) (first : Machine)
+feed_goes : (h : List Entry) (user : List ℕ) (version : Version) (program : Program) (strict : Bool) (asked : Subscription) (earlier : List SessionStep) (s : SessionStep) (first : Machine)
     → Leads (new_machine user version strict) (s ∷ earlier) first → Offering h user version asked (put_by (s ∷ [])) (feed_looks (s ∷ [])) first
-    → (more : List Step) (m : Machine) → LeadsFeed first more m → AreRight h user program strict (more ++ s ∷ earlier)
+    → (more : List SessionStep) (m : Machine) → LeadsFeed first more m → AreRight h user program strict (more ++ s ∷ earlier)
     → Offering h user version asked (put_by (more ++ s ∷ [])) (feed_looks (more ++ s ∷ [])) m
 feed_goes h user version program strict asked earlier s first leads begun [] m e right = subst (Offering h user version asked (put_by (s ∷ [])) (feed_looks (s ∷ []))) (sym e) begun
 feed_goes h user version program strict asked earlier s first leads begun (t ∷ more) m (before, feeds, runs, made) right =
@@ -496,7 +496,7 @@ feed_goes h user version program strict asked earlier s first leads begun (t ∷
     (feed_goes h user version program strict asked earlier s first leads begun more before feeds right.1) made
     (wants_after user version strict (more ++ s ∷ earlier) before (leads_on (new_machine user version strict) first (s ∷ earlier) leads more before feeds)) right.0
 
-begins : (h : List Entry) (user : List ℕ) (version : Version) (program : Program) (strict : Bool) (asked : Subscription) (front : ℕ) (rows : List Row) (earlier : List Step) (before : Machine) (s : Step) (first : Machine)
+begins : (h : List Entry) (user : List ℕ) (version : Version) (program : Program) (strict : Bool) (asked : Subscription) (front : ℕ) (rows : List Row) (earlier : List SessionStep) (before : Machine) (s : SessionStep) (first : Machine)
     → Leads (new_machine user version strict) earlier before → before.pending ≡ pending.Feed asked → s.event ≡ event.Fed (fed.Rows front rows) → Steps before s first → AreRight h user program strict (s ∷ earlier)
     → Offering h user version asked (put_by (s ∷ [])) (feed_looks (s ∷ [])) first
 begins h user version program strict asked front rows earlier before s first leads awaited came made right =
@@ -504,24 +504,24 @@ begins h user version program strict asked front rows earlier before s first lea
     (first_offer h user version program strict asked front rows before s first (wanted_after earlier) (same_user user version strict earlier before leads).0 (same_user user version strict earlier before leads).1
     awaited came made (wants_after user version strict earlier before leads) right.0)
 
-right_before : (h : List Entry) (user : List ℕ) (program : Program) (strict : Bool) (more earlier : List Step) → AreRight h user program strict (more ++ earlier) → AreRight h user program strict earlier
+right_before : (h : List Entry) (user : List ℕ) (program : Program) (strict : Bool) (more earlier : List SessionStep) → AreRight h user program strict (more ++ earlier) → AreRight h user program strict earlier
 right_before h user program strict [] earlier right = right
 right_before h user program strict (s ∷ more) earlier (one, right) = right_before h user program strict more earlier right
 
-offers_are : (h : List Entry) (user : List ℕ) (version : Version) (program : Program) (strict : Bool) (asked : Subscription) (front : ℕ) (rows : List Row) (earlier more : List Step) (before first after : Machine) (s : Step)
+offers_are : (h : List Entry) (user : List ℕ) (version : Version) (program : Program) (strict : Bool) (asked : Subscription) (front : ℕ) (rows : List Row) (earlier more : List SessionStep) (before first after : Machine) (s : SessionStep)
     → Leads (new_machine user version strict) earlier before → before.pending ≡ pending.Feed asked → s.event ≡ event.Fed (fed.Rows front rows) → Steps before s first
     → LeadsFeed first more after → AreRight h user program strict (more ++ s ∷ earlier)
-    → (offered : List Row) × AreOffered version (put_by (more ++ s ∷ [])) offered
-    × (offered ++ not_offered after.feed ≡ rows_at h user asked.since asked.options (feed_looks (more ++ s ∷ [])))
+    → (offered : List Row) × AreRowsOffered version (put_by (more ++ s ∷ [])) offered
+    × (offered ++ not_offered after.feed ≡ feed_rows_at h user asked.since asked.options (feed_looks (more ++ s ∷ [])))
 offers_are h user version program strict asked front rows earlier more before first after s leads awaited came made feeds right =
     let all : Offering h user version asked (put_by (more ++ s ∷ [])) (feed_looks (more ++ s ∷ [])) after =
     feed_goes h user version program strict asked earlier s first (before, leads, made)
     (begins h user version program strict asked front rows earlier before s first leads awaited came made (right_before h user program strict more (s ∷ earlier) right)) more after feeds right in
     (all.offered, all.are, all.sum)
 
-pub offers_are_rows : (h : List Entry) (user : List ℕ) (version : Version) (program : Program) (strict : Bool) (earlier : List Step) (begin : Step) (more : List Step) (after : Machine)
+pub offers_are_rows : (h : List Entry) (user : List ℕ) (version : Version) (program : Program) (strict : Bool) (earlier : List SessionStep) (begin : SessionStep) (more : List SessionStep) (after : Machine)
     → (f : RunsFeed user version strict earlier begin more after) → AreRight h user program strict (more ++ begin ∷ earlier)
-    → (offered : List Row) × AreOffered version (put_by (more ++ begin ∷ [])) offered
-    × (offered ++ not_offered after.feed ≡ rows_at h user f.asked.since f.asked.options (feed_looks (more ++ begin ∷ [])))
+    → (offered : List Row) × AreRowsOffered version (put_by (more ++ begin ∷ [])) offered
+    × (offered ++ not_offered after.feed ≡ feed_rows_at h user f.asked.since f.asked.options (feed_looks (more ++ begin ∷ [])))
 offers_are_rows h user version program strict earlier begin more after f right =
     offers_are h user version program strict f.asked f.front f.rows earlier more f.before f.first after begin f.leads f.awaited f.event f.begins f.runs right

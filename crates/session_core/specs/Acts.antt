@@ -33,27 +33,27 @@ use Rattle.session_core.specs.declared.replies.Awaited.{Awaited}
 use Rattle.session_core.specs.declared.replies.Awaited.TheVariants as awaited
 
 -- all that is to be done in one list, of which a want is the last
-abbrev pub listed : List Act → Option Want → List Act
-listed puts None = puts
-listed puts (Some want) = puts ++ act.Want want ∷ []
+abbrev pub listed_acts : List Act → Option Want → List Act
+listed_acts puts None = puts
+listed_acts puts (Some want) = puts ++ act.Want want ∷ []
 
 -- ---- messages
 
 -- a request of the gateway, of this number
-abbrev pub request_message : ℕ → Bool → Payload → Message
-request_message number no_reply payload =
+abbrev pub act_request : ℕ → Bool → Payload → Message
+act_request number no_reply payload =
     record { number = number; kind = kinds.Msg; urgent = false; no_reply = no_reply; payload = payload }
 
 -- the reply to a request of this number, urgent where that was
-abbrev pub reply_message : ℕ → Kind → Bool → Payload → Message
-reply_message number kind urgent payload =
+abbrev pub act_reply : ℕ → Kind → Bool → Payload → Message
+act_reply number kind urgent payload =
     record { number = number; kind = kind; urgent = urgent; no_reply = false; payload = payload }
 
 -- the messages that acts put, requests numbered from this one on
 abbrev pub messages_from : ℕ → List Act → List Message
 messages_from number [] = []
-messages_from number (act.Reply to kind urgent payload ∷ acts) = reply_message to kind urgent payload ∷ messages_from number acts
-messages_from number (act.Request payload no_reply ∷ acts) = request_message number no_reply payload ∷ messages_from (number + 1) acts
+messages_from number (act.Reply to kind urgent payload ∷ acts) = act_reply to kind urgent payload ∷ messages_from number acts
+messages_from number (act.Request payload no_reply ∷ acts) = act_request number no_reply payload ∷ messages_from (number + 1) acts
 messages_from number (act.Want want ∷ acts) = messages_from number acts
 
 -- ---- replies
@@ -145,7 +145,7 @@ abbrev pub flagged : Bool → Row → List Row
 flagged flag row = if flag then row ∷ [] else []
 
 -- the rows of which the flag is set
-abbrev pub chosen : List Row → List Bool → List Row
-chosen [] flags = []
-chosen (row ∷ rows) [] = []
-chosen (row ∷ rows) (flag ∷ flags) = flagged flag row ++ chosen rows flags
+abbrev pub flagged_rows : List Row → List Bool → List Row
+flagged_rows [] flags = []
+flagged_rows (row ∷ rows) [] = []
+flagged_rows (row ∷ rows) (flag ∷ flags) = flagged flag row ++ flagged_rows rows flags

@@ -14,7 +14,7 @@ use Rattle.session_core.specs.declared.machine.Pending.{Pending}
 use Rattle.session_core.specs.declared.machine.Pending.TheVariants as pending
 use Rattle.session_core.specs.declared.replies.Awaited.{Awaited}
 use Rattle.session_core.specs.declared.replies.Awaited.TheVariants as awaited
-use Rattle.session_core.specs.Acts.{chosen}
+use Rattle.session_core.specs.Acts.{flagged_rows}
 use Rattle.session_core.specs.Fronts.{front_by}
 use Rattle.session_core.specs.Running.{Running, next_since}
 use Rattle.session_core.specs.State.{Machine}
@@ -76,7 +76,7 @@ IsNextLook (Some r) since options = (since ≡ next_since r) × (options ≡ r.o
 -- these rows are some of those that a feed has on offer, and these are its options
 abbrev pub AreOnOffer : Option Running → Options → List Row → Type 0
 AreOnOffer None options rows = ⊥
-AreOnOffer (Some r) options rows = (options ≡ r.options) × ((flags : List Bool) × (rows ≡ chosen (take r.batch r.rows) flags))
+AreOnOffer (Some r) options rows = (options ≡ r.options) × ((flags : List Bool) × (rows ≡ flagged_rows (take r.batch r.rows) flags))
 
 -- this is wanted for a request
 abbrev pub IsWanted : Awaited → Want → Type 0

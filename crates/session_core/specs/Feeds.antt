@@ -20,20 +20,20 @@ use Rattle.session_core.specs.declared.machine.Pending.TheVariants as pending
 use Rattle.session_core.specs.declared.machine.Subscription.{Subscription}
 use Rattle.session_core.specs.Running.{Running}
 use Rattle.session_core.specs.State.{Machine, new_machine}
-use Rattle.session_core.specs.Steps.{Step, Steps, Leads}
+use Rattle.session_core.specs.Steps.{SessionStep, Steps, Leads}
 
 -- ---- what is offered
 
 -- a request of the gateway that offers rows
-abbrev pub IsOffer : Message → Type 0
-IsOffer m = (is_request m.kind ≡ true) × (value_at m.payload.props (codes "Profile") ≡ Some (codes "changes"))
+abbrev pub IsRowsOffer : Message → Type 0
+IsRowsOffer m = (is_request m.kind ≡ true) × (value_at m.payload.props (codes "Profile") ≡ Some (codes "changes"))
 
 -- these messages offer these rows, in order, and no others: each one that offers rows has the first of those that are left
-abbrev pub AreOffered : Version → List Message → List Row → Type 0
-AreOffered version [] rows = rows ≡ []
-AreOffered version (m ∷ messages) rows =
-    ((IsOffer m → ⊥) × AreOffered version messages rows)
-    ⊎ ((first : List Row) × (later : List Row) × IsOffer m × (m.payload ≡ changes_payload first version) × (rows ≡ first ++ later) × AreOffered version messages later)
+abbrev pub AreRowsOffered : Version → List Message → List Row → Type 0
+AreRowsOffered version [] rows = rows ≡ []
+AreRowsOffered version (m ∷ messages) rows =
+    ((IsRowsOffer m → ⊥) × AreRowsOffered version messages rows)
+    ⊎ ((first : List Row) × (later : List Row) × IsRowsOffer m × (m.payload ≡ changes_payload first version) × (rows ≡ first ++ later) × AreRowsOffered version messages later)
 
 -- the rows that a feed has not offered yet
 abbrev pub not_offered : Option Running → List Row
@@ -44,11 +44,11 @@ not_offered (Some r) = drop r.batch r.rows
 
 -- the rows of a feed at the fronts of its looks, the last of which is the first of the list: at its first look from its since key,
 -- and at each later one from the plain key of the front before
-abbrev pub rows_at : List Entry → List ℕ → Key → Options → List ℕ → List Row
-rows_at h user since options [] = []
-rows_at h user since options (front ∷ []) = feed (past h front) user since options
-rows_at h user since options (front ∷ before ∷ earlier) =
-    rows_at h user since options (before ∷ earlier) ++ feed (past h front) user (plain before) options
+abbrev pub feed_rows_at : List Entry → List ℕ → Key → Options → List ℕ → List Row
+feed_rows_at h user since options [] = []
+feed_rows_at h user since options (front ∷ []) = feed (past h front) user since options
+feed_rows_at h user since options (front ∷ before ∷ earlier) =
+    feed_rows_at h user since options (before ∷ earlier) ++ feed (past h front) user (plain before) options
 
 -- the front of a look for a feed
 abbrev pub feed_look : Event → List ℕ
@@ -56,19 +56,19 @@ feed_look (event.Fed answer) = front_of answer ∷ []
 feed_look _ = []
 
 -- the fronts of the looks for feeds among steps, as of the steps the last first
-abbrev pub feed_looks : List Step → List ℕ
+abbrev pub feed_looks : List SessionStep → List ℕ
 feed_looks [] = []
 feed_looks (s ∷ earlier) = feed_look s.event ++ feed_looks earlier
 
 -- ---- while a feed runs
 
 -- the steps lead from one state to another, and a feed runs before each of them
-abbrev pub LeadsFeed : Machine → List Step → Machine → Type 0
+abbrev pub LeadsFeed : Machine → List SessionStep → Machine → Type 0
 LeadsFeed start [] after = after ≡ start
 LeadsFeed start (s ∷ earlier) after = (before : Machine) × LeadsFeed start earlier before × IsSome before.feed × Steps before s after
 
 -- after earlier steps of a session a feed that a device asked for begins at a step, and runs before each of more steps
-pub record RunsFeed (user : List ℕ) (version : Version) (strict : Bool) (earlier : List Step) (begin : Step) (more : List Step) (after : Machine) : Type 0 where
+pub record RunsFeed (user : List ℕ) (version : Version) (strict : Bool) (earlier : List SessionStep) (begin : SessionStep) (more : List SessionStep) (after : Machine) : Type 0 where
   pub before : Machine
   pub first : Machine
   pub asked : Subscription

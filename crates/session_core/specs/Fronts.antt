@@ -7,7 +7,7 @@ use Rattle.session_core.specs.declared.event.Event.{Event}
 use Rattle.session_core.specs.declared.event.Event.TheVariants as event
 use Rattle.session_core.specs.declared.look.Look.{Look}
 use Rattle.session_core.specs.declared.look.Purpose.TheVariants as purposes
-use Rattle.session_core.specs.Steps.{Step}
+use Rattle.session_core.specs.Steps.{SessionStep}
 
 -- the front by which a revision was judged; none where no board was read for its outcome, or memory ran out
 abbrev pub judged_at : Outcome → List ℕ
@@ -55,15 +55,15 @@ stored_by (event.Judged outcome) = stored_as outcome
 stored_by _ = []
 
 -- the looks, the fronts and the sequences of stored revisions of steps, in order; the last step is the first of the list
-abbrev pub looks_of : List Step → List Look
+abbrev pub looks_of : List SessionStep → List Look
 looks_of [] = []
 looks_of (s ∷ earlier) = looks_of earlier ++ look_of s.event
 
-abbrev pub fronts_of : List Step → List ℕ
+abbrev pub fronts_of : List SessionStep → List ℕ
 fronts_of [] = []
 fronts_of (s ∷ earlier) = fronts_of earlier ++ front_by s.event
 
-abbrev pub stored_of : List Step → List ℕ
+abbrev pub stored_of : List SessionStep → List ℕ
 stored_of [] = []
 stored_of (s ∷ earlier) = stored_of earlier ++ stored_by s.event
 

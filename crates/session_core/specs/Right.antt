@@ -14,19 +14,19 @@ use Rattle.repl_messages.specs.declared.revision.Revision.{Revision}
 use Rattle.repl_messages.specs.Looks.{IsFed, AreBodies, SeenUpTo}
 use Rattle.doc_board.specs.declared.outcome.Outcome.{Outcome}
 use Rattle.doc_board.specs.declared.outcome.Outcome.TheVariants as outcome
-use Rattle.doc_board.specs.Offers.{answer_to}
-use Rattle.doc_board.specs.Outcomes.{IsOutcome, IsBadField, IsTooLarge, IsWriteOf, IsByLimits, bytes_of}
+use Rattle.doc_board.specs.Offers.{offer_answer}
+use Rattle.doc_board.specs.Outcomes.{IsOutcome, IsBadPart, IsTooLarge, IsWriteOf, IsByLimits, bytes_of}
 use Rattle.session_core.specs.declared.act.Want.{Want}
 use Rattle.session_core.specs.declared.act.Want.TheVariants as want
 use Rattle.session_core.specs.declared.event.Event.{Event}
 use Rattle.session_core.specs.declared.event.Event.TheVariants as event
-use Rattle.session_core.specs.Steps.{Step, wanted_after}
+use Rattle.session_core.specs.Steps.{SessionStep, wanted_after}
 
 -- each offer has its answer, in their order, by the tree of its document as it was seen, no less than up to the front
 pub record AreAsked (h : List Entry) (offers : List Offer) (asked : Asked) : Type 0 where
   pub numbers : List ℕ → ℕ
   pub seen : SeenUpTo (past h asked.front) numbers
-  pub answers : asked.answers ≡ map (λ (offer : Offer). answer_to (trees_up_to (book_of h) numbers offer.doc) offer) offers
+  pub answers : asked.answers ≡ map (λ (offer : Offer). offer_answer (trees_up_to (book_of h) numbers offer.doc) offer) offers
 
 -- the outcome of a revision is that by a board than which the history is later
 pub record IsJudgedIn (h : List Entry) (program : Program) (strict : Bool) (by : Option (List ℕ)) (r : Revision) (answer : Outcome) : Type 0 where
@@ -54,7 +54,7 @@ pub record IsStoredIn (h : List Entry) (program : Program) (strict : Bool) (by :
 
 -- the outcome of a revision that was proposed: by the revision itself where that is refused, else by a board; out of memory none
 abbrev pub IsProposedIn : List Entry → Program → Bool → Option (List ℕ) → Revision → Outcome → Type 0
-IsProposedIn h program strict by r (outcome.Bad400 field) = IsBadField r field
+IsProposedIn h program strict by r (outcome.Bad400 field) = IsBadPart r field
 IsProposedIn h program strict by r (outcome.TooLarge413 bytes) = IsTooLarge r bytes
 IsProposedIn h program strict by r (outcome.UserGone401 at) = IsJudgedIn h program strict by r (outcome.UserGone401 at)
 IsProposedIn h program strict by r (outcome.Known at) = IsJudgedIn h program strict by r (outcome.Known at)
@@ -79,6 +79,6 @@ IsRight h user program strict (Some (want.SetCheckpoint client rev body)) (event
 IsRight h user program strict (Some wanted) event = ⊥
 
 -- the same of all steps, the last of which is the first of the list
-abbrev pub AreRight : List Entry → List ℕ → Program → Bool → List Step → Type 0
+abbrev pub AreRight : List Entry → List ℕ → Program → Bool → List SessionStep → Type 0
 AreRight h user program strict [] = Unit {0}
 AreRight h user program strict (s ∷ earlier) = IsRight h user program strict (wanted_after earlier) s.event × AreRight h user program strict earlier

@@ -25,7 +25,7 @@ use Rattle.session_core.specs.declared.replies.Awaited.TheVariants as awaited
 use Rattle.session_core.specs.declared.machine.Subscription.{Subscription}
 use Rattle.session_core.specs.declared.machine.Pending.{Pending}
 use Rattle.session_core.specs.declared.machine.Pending.TheVariants as pending
-use Rattle.session_core.specs.Acts.{refusal_act, acceptance_act, error_of, answer_act, body_acts, chosen}
+use Rattle.session_core.specs.Acts.{refusal_act, acceptance_act, error_of, answer_act, body_acts, flagged_rows}
 use Rattle.session_core.specs.Running.{Running, rest, is_none, next_since, next_acts, next_requests, next_feed}
 use Rattle.session_core.specs.State.{Machine}
 
@@ -50,8 +50,8 @@ abbrev pub going_on : Machine → ℕ → Running → Machine
 going_on m requests r = record m { requests = next_requests requests r; feed = next_feed requests r; pending = pending.Nothing }
 
 -- behind these acts, with which the gateway has put so many requests, a feed goes on
-abbrev pub goes_on : Machine → List Act → ℕ → Running → Done
-goes_on m acts requests r = record { after = going_on m requests r; acts = acts ++ next_acts m.version r; want = None }
+abbrev pub goes_on_feed : Machine → List Act → ℕ → Running → Done
+goes_on_feed m acts requests r = record { after = going_on m requests r; acts = acts ++ next_acts m.version r; want = None }
 
 -- a feed takes its next look
 abbrev pub looks_again : Machine → List Act → ℕ → Running → Done
@@ -66,10 +66,10 @@ looks_again m acts requests r =
 -- once, and every other one goes on
 abbrev pub answered_by : Bool → Machine → List Act → ℕ → Running → Done
 answered_by true m acts requests r = looks_again m acts requests r
-answered_by false m acts requests r = goes_on m acts requests r
+answered_by false m acts requests r = goes_on_feed m acts requests r
 
-abbrev pub answered : Machine → List Act → ℕ → Running → Done
-answered m acts requests r = answered_by (r.continuous && is_none r.rows) m acts requests r
+abbrev pub answer_done : Machine → List Act → ℕ → Running → Done
+answer_done m acts requests r = answered_by (r.continuous && is_none r.rows) m acts requests r
 
 -- ---- requests
 
@@ -113,7 +113,7 @@ answers r m = not (is_none r.rows) && (is_reply m.kind && m.number == r.number)
 
 -- the rows on offer that a reply wants
 abbrev pub wanted_of : Running → Message → List Row
-wanted_of r m = chosen (take r.batch r.rows) (wanted_rows (length (take r.batch r.rows)) (reply_items m.kind m.payload.body))
+wanted_of r m = flagged_rows (take r.batch r.rows) (wanted_rows (length (take r.batch r.rows)) (reply_items m.kind m.payload.body))
 
 -- how many ancestors of a revision a reply wants at most
 abbrev pub most_ancestors : Message → ℕ
@@ -121,7 +121,7 @@ most_ancestors m = max_history_of (value_at m.payload.props (codes "maxHistory")
 
 -- the rows on offer are answered: none of them is wanted, or the bodies of these are
 abbrev pub on_wanted : Machine → Message → Running → List Row → Done
-on_wanted m message r [] = answered m [] m.requests (rest r)
+on_wanted m message r [] = answer_done m [] m.requests (rest r)
 on_wanted m message r (row ∷ rows) = asks m (pending.Bodies (row ∷ rows)) (want.Bodies r.options (row ∷ rows) (most_ancestors message))
 
 -- a reply to what is on offer is taken; every other one is passed over
@@ -132,19 +132,19 @@ on_reply m message (Some r) = if answers r message then on_wanted m message r (w
 -- ---- answers of the history
 
 -- the feed that is asked for, with the rows of its first look, at this front
-abbrev pub first_of : Subscription → List Row → ℕ → Running
-first_of asked rows front =
+abbrev pub first_running : Subscription → List Row → ℕ → Running
+first_running asked rows front =
     record { rows = rows; batch = asked.batch; options = asked.options; continuous = asked.continuous; number = 0; front = front; caught_up = false }
 
 -- a feed begins, after its reply; or its since key is past the front
 abbrev pub on_first_look : Machine → Subscription → Fed → Done
 on_first_look m asked (fed.Future front) = refused m asked.asker (errors.SincePast400 front)
 on_first_look m asked (fed.Rows front rows) =
-    goes_on m (acceptance_act asked.asker) m.requests (first_of asked rows front)
+    goes_on_feed m (acceptance_act asked.asker) m.requests (first_running asked rows front)
 
 -- a feed has the rows of its next look
 abbrev pub on_next_look : Machine → Option Running → Fed → Done
-on_next_look m (Some r) (fed.Rows front rows) = goes_on m [] m.requests (record r { rows = rows; front = front })
+on_next_look m (Some r) (fed.Rows front rows) = goes_on_feed m [] m.requests (record r { rows = rows; front = front })
 on_next_look m feed answer = puts m []
 
 abbrev pub on_fed : Machine → Fed → Pending → Done
@@ -155,7 +155,7 @@ on_fed m answer other = puts m []
 -- the bodies of wanted rows are put
 abbrev pub on_bodies_of : Machine → Bodies → List Row → Option Running → Done
 on_bodies_of m b wanted None = puts m []
-on_bodies_of m b wanted (Some r) = answered m (body_acts wanted b.answers) (m.requests + length wanted) (rest r)
+on_bodies_of m b wanted (Some r) = answer_done m (body_acts wanted b.answers) (m.requests + length wanted) (rest r)
 
 abbrev pub on_bodies : Machine → Bodies → Pending → Done
 on_bodies m b (pending.Bodies wanted) = on_bodies_of m b wanted m.feed
@@ -182,12 +182,12 @@ DoesByMessage true m message done =
 DoesByMessage false m message done = done ≡ on_reply m message m.feed
 
 -- what a session does for an event
-abbrev pub Does : Machine → Event → Done → Type 0
-Does m (event.Whole message) done = DoesByMessage (is_request message.kind) m message done
-Does m (event.Idle front) done = done ≡ on_idle m front m.feed
-Does m (event.Fed answer) done = done ≡ on_fed m answer m.pending
-Does m (event.Bodies b) done = done ≡ on_bodies m b m.pending
-Does m other done = done ≡ on_answer m other m.pending
+abbrev pub DoesForEvent : Machine → Event → Done → Type 0
+DoesForEvent m (event.Whole message) done = DoesByMessage (is_request message.kind) m message done
+DoesForEvent m (event.Idle front) done = done ≡ on_idle m front m.feed
+DoesForEvent m (event.Fed answer) done = done ≡ on_fed m answer m.pending
+DoesForEvent m (event.Bodies b) done = done ≡ on_bodies m b m.pending
+DoesForEvent m other done = done ≡ on_answer m other m.pending
 
 -- ---- what the machine answers
 
@@ -200,11 +200,11 @@ abbrev pub IsDoneBy : (Done → Type 0) → Machine → Acts → Type 0
 IsDoneBy By after acts = (done : Done) × By done × IsDone done after acts
 
 -- the answer to the first look for a feed is awaited
-abbrev pub IsFirst : Pending → Type 0
-IsFirst (pending.Feed asked) = Unit {0}
-IsFirst other = ⊥
+abbrev pub AwaitsFirst : Pending → Type 0
+AwaitsFirst (pending.Feed asked) = Unit {0}
+AwaitsFirst other = ⊥
 
 -- the feed that was asked for begins with these rows of a look at this front
 abbrev pub BeginsBy : Machine → List Row → ℕ → Pending → Machine → Type 0
-BeginsBy m rows front (pending.Feed asked) after = after ≡ going_on m m.requests (first_of asked rows front)
+BeginsBy m rows front (pending.Feed asked) after = after ≡ going_on m m.requests (first_running asked rows front)
 BeginsBy m rows front other after = ⊥

@@ -1,7 +1,7 @@
 //! What a session does for an event.
 
 ghost use Rattle.std.specs.Prelude.{◌≡◌, IfOk};
-ghost use Rattle.session_core.specs.Acts.{listed};
+ghost use Rattle.session_core.specs.Acts.{listed_acts};
 
 use blip_frame::{Kind, Payload};
 use repl_messages::{Offers, Revision};
@@ -73,7 +73,7 @@ pub struct Acts {
 impl Acts {
     /// All in one list, of which a want is the last.
     pub fn into_list(self) -> Result<Vec<Act>, Memory>
-        ensures { IfOk result (λ acts. acts.items ≡ listed self.puts.items self.want) }
+        ensures { IfOk result (λ acts. acts.items ≡ listed_acts self.puts.items self.want) }
     {
         let Acts { mut puts, want } = self;
         if let Some(want) = want {

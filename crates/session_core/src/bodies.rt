@@ -1,7 +1,7 @@
 //! Acts that answer the rows that a device wants.
 
 ghost use Rattle.std.specs.Prelude.{◌≡◌, ◌≤◌, ◌++◌, ◌∷◌, [], length, IfOk, OnOk};
-ghost use Rattle.session_core.specs.Acts.{body_act, body_acts, chosen, flagged};
+ghost use Rattle.session_core.specs.Acts.{body_act, body_acts, flagged_rows, flagged};
 
 use crate::act::Act;
 use repl_messages::{Body, rev_message, write_norev, write_rev};
@@ -14,7 +14,7 @@ const REMOVED: &[u8] = b"{\"_removed\":true}";
 
 /// Copies of the rows of which the flag is set.
 pub(crate) fn choose(alloc: Global, rows: &[Row], flags: &[bool]) -> Result<Rows, Memory>
-    ensures value { IfOk result (λ some. some ≡ chosen rows.now flags.now) }
+    ensures value { IfOk result (λ some. some ≡ flagged_rows rows.now flags.now) }
     ensures bound { IfOk result (λ some. length some ≤ length rows.now) }
 {
     let mut some = Rows::new(alloc);

@@ -4,7 +4,7 @@ ghost use Rattle.std.specs.Prelude.{◌≡◌, ◌≤◌, ◌<◌, ◌+◌, None
 ghost use Rattle.sg_history.specs.Device as device;
 ghost use Rattle.session_core.specs.Running as running;
 ghost use Rattle.session_core.specs.State.{Machine, Awaits, IsSound, IsAwaited, new_machine, most_puts, most_requests};
-ghost use Rattle.session_core.specs.Transitions.{Does, IsDone, IsDoneBy, going_on, on_idle, refused, asks};
+ghost use Rattle.session_core.specs.Transitions.{DoesForEvent, IsDone, IsDoneBy, going_on, on_idle, refused, asks};
 
 use crate::act::{Act, Acts, Want};
 use crate::event::Event;
@@ -148,7 +148,7 @@ impl Core {
         requires awaited { Awaits self.old event }
         requires room { self.old.requests ≤ most_requests }
         ensures ok { IfOk result (λ acts. IsDoneBy
-            (λ done. Does self.old event done) self.new acts) }
+            (λ done. DoesForEvent self.old event done) self.new acts) }
         ensures few { OnOk result (self.new.requests ≤ self.old.requests + most_puts) }
         ensures err { OnErr result (self.new ≡ self.old) }
     {
@@ -171,7 +171,7 @@ impl Core {
         requires awaited { self.old.pending ≡ Pending.Nothing }
         requires room { self.old.requests ≤ most_requests }
         ensures ok { IfOk result (λ acts. IsDoneBy
-            (λ done. Does self.old (Event.Whole message.old) done) self.new acts) }
+            (λ done. DoesForEvent self.old (Event.Whole message.old) done) self.new acts) }
         ensures few { OnOk result (self.new.requests ≤ self.old.requests + 1) }
         ensures err { OnErr result (self.new ≡ self.old) }
     {

@@ -24,12 +24,12 @@ use Rattle.session_core.specs.declared.machine.Subscription.{Subscription}
 use Rattle.session_core.specs.declared.machine.Pending.TheVariants as pending
 use Rattle.session_core.specs.Acts.{messages_from, acceptance_act, offer_act}
 use Rattle.session_core.specs.Conduct.{requests_among, WantsFor}
-use Rattle.session_core.specs.Feeds.{not_offered, rows_at, feed_look, feed_looks, LeadsFeed, RunsFeed}
+use Rattle.session_core.specs.Feeds.{not_offered, feed_rows_at, feed_look, feed_looks, LeadsFeed, RunsFeed}
 use Rattle.session_core.specs.Right.{IsRight, AreRight}
 use Rattle.session_core.specs.Running.{Running, rest, is_none, is_silent, next_since, next_acts, next_feed, next_feed_with}
 use Rattle.session_core.specs.State.{Machine, new_machine, Awaits}
-use Rattle.session_core.specs.Steps.{Step, Steps, Leads, put_by, wanted_after}
-use Rattle.session_core.specs.Transitions.{Done, goes_on, looks_again, first_of, on_first_look, on_fed, Does}
+use Rattle.session_core.specs.Steps.{SessionStep, Steps, Leads, put_by, wanted_after}
+use Rattle.session_core.specs.Transitions.{Done, goes_on_feed, looks_again, first_running, on_first_look, on_fed, DoesForEvent}
 use Rattle.session_laws.specs.Batches.{batches_up_to, batches, AreFull, looks_at, is_offer, AreOffers, with_rows, offers_among}
 use Rattle.session_laws.proofs.Opening.{messages_on, none_first, none_later, last_of, take_none, acceptance_none, Keeps, same_version}
 use Rattle.session_laws.proofs.Shapes.{OffersNone, nothing_offered, Fits, fits_nothing, Shape, stays, looks_next, answers_all, begins_first, has_more, shape}
@@ -99,14 +99,14 @@ all_up_to (suc most) size (row ∷ rows) some few =
 pub are_cut : (size : ℕ) (rows : List Row) → 1 ≤ size → AreFull size (batches size rows) × (flat_map (λ piece. piece) (batches size rows) ≡ rows)
 are_cut size rows some = (full_up_to (length rows) size rows some, all_up_to (length rows) size rows some (le_refl (length rows)))
 
-pub all_looks : (h : List Entry) (user : List ℕ) (since : Key) (options : Options) (fronts : List ℕ) → flat_map (λ look. look) (looks_at h user since options fronts) ≡ rows_at h user since options fronts
+pub all_looks : (h : List Entry) (user : List ℕ) (since : Key) (options : Options) (fronts : List ℕ) → flat_map (λ look. look) (looks_at h user since options fronts) ≡ feed_rows_at h user since options fronts
 all_looks h user since options [] = refl
 all_looks h user since options (front ∷ []) = append-nil (feed (past h front) user since options)
 all_looks h user since options (front ∷ before ∷ earlier) =
     let last : List Row = feed (past h front) user (plain before) options in
     flat_map-append (λ look. look) (looks_at h user since options (before ∷ earlier)) (last ∷ [])
     ∙ ap (λ rows. rows ++ (last ++ [])) (all_looks h user since options (before ∷ earlier))
-    ∙ ap (λ rows. rows_at h user since options (before ∷ earlier) ++ rows) (append-nil last)
+    ∙ ap (λ rows. feed_rows_at h user since options (before ∷ earlier) ++ rows) (append-nil last)
 
 -- ---- offers
 
@@ -167,7 +167,7 @@ next_runs asked fronts (row ∷ rows) n r runs = runs
 goes : (h : List Entry) (user : List ℕ) (version : Version) (asked : Subscription) (messages : List Message) (fronts : List ℕ) (m : Machine) (acts : List Act) (requests : ℕ) (r : Running) (offers : List (List Row))
     → AreOffers version messages offers → with_rows offers ++ batches asked.batch r.rows ≡ flat_map (batches asked.batch) (looks_at h user asked.since asked.options fronts)
     → Runs asked fronts (Some r) → m.version ≡ version → OffersNone acts
-    → After h user version asked messages fronts m (goes_on m acts requests r)
+    → After h user version asked messages fronts m (goes_on_feed m acts requests r)
 goes h user version asked messages fronts m acts requests r offers are sum runs version_is none =
     let tail : with_rows (next_offers r) ++ batches asked.batch (drop r.batch r.rows) ≡ batches asked.batch r.rows =
     subst (λ size. with_rows (next_offers r) ++ batches size (drop r.batch r.rows) ≡ batches size r.rows) runs.1
@@ -218,7 +218,7 @@ by_look h user program strict r front rows (Some (want.SetCheckpoint client rev 
 
 more_rows : (h : List Entry) (user : List ℕ) (version : Version) (asked : Subscription) (messages : List Message) (fronts : List ℕ) (m : Machine) (r : Running) (front : ℕ) (rows : List Row)
     → Batched h user version asked messages fronts m → m.feed ≡ Some r → is_none r.rows ≡ true → rows ≡ feed (past h front) user (plain r.front) r.options
-    → After h user version asked messages (front ∷ fronts) m (goes_on m [] m.requests (record r { rows = rows; front = front }))
+    → After h user version asked messages (front ∷ fronts) m (goes_on_feed m [] m.requests (record r { rows = rows; front = front }))
 more_rows h user version asked messages fronts m r front rows so_far e left are =
     let runs : Runs asked fronts (Some r) = subst (Runs asked fronts) e so_far.runs in
     let cut : List Row → List (List Row) = batches asked.batch in
@@ -265,15 +265,15 @@ event_batched h user version program strict asked messages fronts m x done wante
 
 -- what the law of conduct says
 abbrev pub Wants : Type 0
-Wants = (m : Machine) (event : Event) (done : Done) → Awaits m event → Does m event done → WantsFor done.after.feed done.after.pending done.want
+Wants = (m : Machine) (event : Event) (done : Done) → Awaits m event → DoesForEvent m event done → WantsFor done.after.feed done.after.pending done.want
 
-wants_after : Wants → (user : List ℕ) (version : Version) (strict : Bool) (steps : List Step) (m : Machine) → Leads (new_machine user version strict) steps m → WantsFor m.feed m.pending (wanted_after steps)
+wants_after : Wants → (user : List ℕ) (version : Version) (strict : Bool) (steps : List SessionStep) (m : Machine) → Leads (new_machine user version strict) steps m → WantsFor m.feed m.pending (wanted_after steps)
 wants_after wants user version strict [] m leads = subst (λ (m : Machine). WantsFor m.feed m.pending None) (sym leads) tt
 wants_after wants user version strict (s ∷ steps) m (before, leads, made) =
     subst (λ (m : Machine). WantsFor m.feed m.pending s.want) (sym made.leads)
     (subst (WantsFor made.done.after.feed made.done.after.pending) (sym made.want) (wants before s.event made.done made.awaited made.does))
 
-leads_on : (start first : Machine) (earlier : List Step) → Leads start earlier first → (more : List Step) (m : Machine) → LeadsFeed first more m → Leads start (more ++ earlier) m
+leads_on : (start first : Machine) (earlier : List SessionStep) → Leads start earlier first → (more : List SessionStep) (m : Machine) → LeadsFeed first more m → Leads start (more ++ earlier) m
 leads_on start first earlier leads [] m e = subst (Leads start earlier) (sym e) leads
 leads_on start first earlier leads (s ∷ more) m (before, feeds, runs, made) = (before, leads_on start first earlier leads more before feeds, made)
 
@@ -290,24 +290,24 @@ by_first h user program strict asked front rows f (Some (want.GetCheckpoint clie
 by_first h user program strict asked front rows f (Some (want.SetCheckpoint client rev body)) w right = absurd w
 
 -- a feed begins
-begins : (h : List Entry) (user : List ℕ) (version : Version) (program : Program) (strict : Bool) (asked : Subscription) (front : ℕ) (rows : List Row) (before : Machine) (s : Step) (first : Machine) (wanted : Option Want)
+begins : (h : List Entry) (user : List ℕ) (version : Version) (program : Program) (strict : Bool) (asked : Subscription) (front : ℕ) (rows : List Row) (before : Machine) (s : SessionStep) (first : Machine) (wanted : Option Want)
     → before.version ≡ version → before.pending ≡ pending.Feed asked → s.event ≡ event.Fed (fed.Rows front rows) → Steps before s first
     → WantsFor before.feed before.pending wanted → IsRight h user program strict wanted s.event
     → Batched h user version asked (put_by (s ∷ [])) (feed_looks (s ∷ [])) first
 begins h user version program strict asked front rows before s first wanted version_is awaited came made w right =
     let does : made.done ≡ on_first_look before asked (fed.Rows front rows) =
-    subst (λ p. made.done ≡ on_fed before (fed.Rows front rows) p) awaited (subst (λ x. Does before x made.done) came made.does) in
+    subst (λ p. made.done ≡ on_fed before (fed.Rows front rows) p) awaited (subst (λ x. DoesForEvent before x made.done) came made.does) in
     let are : rows ≡ feed (past h front) user asked.since asked.options =
     by_first h user program strict asked front rows before.feed wanted (subst (λ p. WantsFor before.feed p wanted) awaited w) (subst (IsRight h user program strict wanted) came right) in
     subst (λ fs. Batched h user version asked (put_by (s ∷ [])) fs first) (ap (λ x. feed_look x ++ []) (sym came))
     (subst (λ ms. Batched h user version asked ms (front ∷ []) first) (sym made.puts)
     (subst (Batched h user version asked (messages_from (before.requests + 1) made.done.acts) (front ∷ [])) (sym made.leads)
     (subst (After h user version asked [] (front ∷ []) before) (sym does)
-    (goes h user version asked [] (front ∷ []) before (acceptance_act asked.asker) before.requests (first_of asked rows front) [] refl
+    (goes h user version asked [] (front ∷ []) before (acceptance_act asked.asker) before.requests (first_running asked rows front) [] refl
     (ap (batches asked.batch) are ∙ sym (append-nil (batches asked.batch (feed (past h front) user asked.since asked.options))))
     (refl, refl, ([], refl)) version_is (acceptance_none asked.asker)))))
 
-one_more : Keeps → (h : List Entry) (user : List ℕ) (version : Version) (program : Program) (strict : Bool) (asked : Subscription) (messages : List Message) (fronts : List ℕ) (before : Machine) (s : Step) (after : Machine) (wanted : Option Want)
+one_more : Keeps → (h : List Entry) (user : List ℕ) (version : Version) (program : Program) (strict : Bool) (asked : Subscription) (messages : List Message) (fronts : List ℕ) (before : Machine) (s : SessionStep) (after : Machine) (wanted : Option Want)
     → Batched h user version asked messages fronts before → IsSome before.feed → Steps before s after → WantsFor before.feed before.pending wanted → IsRight h user program strict wanted s.event
     → Batched h user version asked (messages ++ s.puts) (feed_look s.event ++ fronts) after
 one_more keeps h user version program strict asked messages fronts before s after wanted so_far some made w right =
@@ -316,9 +316,9 @@ one_more keeps h user version program strict asked messages fronts before s afte
     (event_batched h user version program strict asked messages fronts before s.event made.done wanted so_far some w right (keeps before s.event made.done made.awaited made.does).version
     (shape before s.event made.done made.awaited made.does so_far.fits)))
 
-feed_batched : Wants → Keeps → (h : List Entry) (user : List ℕ) (version : Version) (program : Program) (strict : Bool) (asked : Subscription) (earlier : List Step) (s : Step) (first : Machine)
+feed_batched : Wants → Keeps → (h : List Entry) (user : List ℕ) (version : Version) (program : Program) (strict : Bool) (asked : Subscription) (earlier : List SessionStep) (s : SessionStep) (first : Machine)
     → Leads (new_machine user version strict) (s ∷ earlier) first → Batched h user version asked (put_by (s ∷ [])) (feed_looks (s ∷ [])) first
-    → (more : List Step) (m : Machine) → LeadsFeed first more m → AreRight h user program strict (more ++ s ∷ earlier)
+    → (more : List SessionStep) (m : Machine) → LeadsFeed first more m → AreRight h user program strict (more ++ s ∷ earlier)
     → Batched h user version asked (put_by (more ++ s ∷ [])) (feed_looks (more ++ s ∷ [])) m
 feed_batched wants keeps h user version program strict asked earlier s first leads begun [] m e right = subst (Batched h user version asked (put_by (s ∷ [])) (feed_looks (s ∷ []))) (sym e) begun
 feed_batched wants keeps h user version program strict asked earlier s first leads begun (t ∷ more) m (before, feeds, runs, made) right =
@@ -326,11 +326,11 @@ feed_batched wants keeps h user version program strict asked earlier s first lea
     (feed_batched wants keeps h user version program strict asked earlier s first leads begun more before feeds right.1) runs made
     (wants_after wants user version strict (more ++ s ∷ earlier) before (leads_on (new_machine user version strict) first (s ∷ earlier) leads more before feeds)) right.0
 
-right_before : (h : List Entry) (user : List ℕ) (program : Program) (strict : Bool) (more earlier : List Step) → AreRight h user program strict (more ++ earlier) → AreRight h user program strict earlier
+right_before : (h : List Entry) (user : List ℕ) (program : Program) (strict : Bool) (more earlier : List SessionStep) → AreRight h user program strict (more ++ earlier) → AreRight h user program strict earlier
 right_before h user program strict [] earlier right = right
 right_before h user program strict (s ∷ more) earlier (one, right) = right_before h user program strict more earlier right
 
-are_batches : Wants → Keeps → (h : List Entry) (user : List ℕ) (version : Version) (program : Program) (strict : Bool) (asked : Subscription) (front : ℕ) (rows : List Row) (earlier more : List Step) (before first after : Machine) (s : Step)
+are_batches : Wants → Keeps → (h : List Entry) (user : List ℕ) (version : Version) (program : Program) (strict : Bool) (asked : Subscription) (front : ℕ) (rows : List Row) (earlier more : List SessionStep) (before first after : Machine) (s : SessionStep)
     → Leads (new_machine user version strict) earlier before → before.pending ≡ pending.Feed asked → s.event ≡ event.Fed (fed.Rows front rows) → Steps before s first
     → LeadsFeed first more after → AreRight h user program strict (more ++ s ∷ earlier)
     → (offers : List (List Row)) × AreOffers version (put_by (more ++ s ∷ [])) offers
@@ -342,7 +342,7 @@ are_batches wants keeps h user version program strict asked front rows earlier m
     (wants_after wants user version strict earlier before leads) (right_before h user program strict more (s ∷ earlier) right).0) more after feeds right in
     (all.offers, all.are, all.sum)
 
-pub offers_are_batches : Wants → Keeps → (h : List Entry) (user : List ℕ) (version : Version) (program : Program) (strict : Bool) (earlier : List Step) (begin : Step) (more : List Step) (after : Machine)
+pub offers_are_batches : Wants → Keeps → (h : List Entry) (user : List ℕ) (version : Version) (program : Program) (strict : Bool) (earlier : List SessionStep) (begin : SessionStep) (more : List SessionStep) (after : Machine)
     → (f : RunsFeed user version strict earlier begin more after) → AreRight h user program strict (more ++ begin ∷ earlier)
     → (offers : List (List Row)) × AreOffers version (put_by (more ++ begin ∷ [])) offers
     × (with_rows offers ++ batches f.asked.batch (not_offered after.feed) ≡ flat_map (batches f.asked.batch) (looks_at h user f.asked.since f.asked.options (feed_looks (more ++ begin ∷ []))))

@@ -44,8 +44,8 @@ use Rattle.session_core.proofs.Replying.{answer_by}
 use Rattle.session_core.specs.Feeds.{feed_look, feed_looks, LeadsFeed, RunsFeed}
 use Rattle.session_core.specs.Running.{Running, rest, is_none, waits, next_acts, next_feed}
 use Rattle.session_core.specs.State.{Machine, new_machine, AwaitsBy, IsReply}
-use Rattle.session_core.specs.Steps.{Step, Steps, Leads, put_by}
-use Rattle.session_core.specs.Transitions.{Done, puts, asks, goes_on, looks_again, answered_by, most_ancestors, asker_of, refused, on_sub_changes, on_changes, on_served, on_request, answers, wanted_of, on_wanted, on_reply, first_of, on_first_look, on_next_look, on_fed, on_bodies_of, on_bodies, on_answer, on_idle, Does, DoesByMessage}
+use Rattle.session_core.specs.Steps.{SessionStep, Steps, Leads, put_by}
+use Rattle.session_core.specs.Transitions.{Done, puts, asks, goes_on_feed, looks_again, answered_by, most_ancestors, asker_of, refused, on_sub_changes, on_changes, on_served, on_request, answers, wanted_of, on_wanted, on_reply, first_running, on_first_look, on_next_look, on_fed, on_bodies_of, on_bodies, on_answer, on_idle, DoesForEvent, DoesByMessage}
 use Rattle.session_laws.specs.Exchanges.{IsAboveLast, IsFromLast, empty_offers, has_caught_up}
 use Rattle.session_core.proofs.Awaiting.{awaits_reply}
 use Rattle.session_laws.proofs.BatchSizes.{HasBatch, ReadHasBatch, read_batch}
@@ -195,7 +195,7 @@ pub record Follows (fronts : List ℕ) (m : Machine) (r : Running) : Type 0 wher
 caught_up_before : (fronts : List ℕ) (m : Machine) (r : Running) → Follows fronts m r → caught_up_count m.feed ≡ caught_up_count (Some r)
 caught_up_before fronts m r f = ap caught_up_count f.is ∙ ap counted (sym f.caught_up)
 
-goes : (fronts : List ℕ) (m : Machine) (acts : List Act) (requests : ℕ) (r : Running) → OfferNone acts → Follows fronts m r → CaughtUpBy fronts m (goes_on m acts requests r)
+goes : (fronts : List ℕ) (m : Machine) (acts : List Act) (requests : ℕ) (r : Running) → OfferNone acts → Follows fronts m r → CaughtUpBy fronts m (goes_on_feed m acts requests r)
 goes fronts m acts requests r none f =
     let it : GoesOn fronts m.version requests r = it_goes fronts f.earlier m.version requests r f.front f.batch f.continuous in
     record {
@@ -288,8 +288,8 @@ batch_asked fronts m asked awaited fits =
     let none : m.feed ≡ None = none_runs fronts m asked m.feed refl awaited fits in
     subst FirstBatch awaited (subst (λ f. Fits fronts f m.pending) none fits)
 
-feed_begins : (m : Machine) (asked : Subscription) (front : ℕ) (rows : List Row) (fronts : List ℕ) → 1 ≤ asked.batch → GoesOn (front ∷ fronts) m.version m.requests (first_of asked rows front)
-feed_begins m asked front rows fronts some = it_goes (front ∷ fronts) fronts m.version m.requests (first_of asked rows front) refl some (λ e. absurd (false≢true e))
+feed_begins : (m : Machine) (asked : Subscription) (front : ℕ) (rows : List Row) (fronts : List ℕ) → 1 ≤ asked.batch → GoesOn (front ∷ fronts) m.version m.requests (first_running asked rows front)
+feed_begins m asked front rows fronts some = it_goes (front ∷ fronts) fronts m.version m.requests (first_running asked rows front) refl some (λ e. absurd (false≢true e))
 
 first_look : (fronts : List ℕ) (m : Machine) (asked : Subscription) (answer : Fed) → m.pending ≡ pending.Feed asked → Fits fronts m.feed m.pending → CaughtUpBy (front_of answer ∷ fronts) m (on_first_look m asked answer)
 first_look fronts m asked (fed.Future front) awaited fits =
@@ -366,7 +366,7 @@ idle_no_feed feed front (pending.Reply asker to) a = absurd a
 
 -- ---- each event
 
-event_caught_up : (fronts : List ℕ) (m : Machine) (x : Event) (done : Done) → AwaitsBy m.feed m.pending x → Does m x done → Fits fronts m.feed m.pending → CaughtUpBy (feed_look x ++ fronts) m done
+event_caught_up : (fronts : List ℕ) (m : Machine) (x : Event) (done : Done) → AwaitsBy m.feed m.pending x → DoesForEvent m x done → Fits fronts m.feed m.pending → CaughtUpBy (feed_look x ++ fronts) m done
 event_caught_up fronts m (event.Whole message) done a does fits = by_message fronts m message done (is_request message.kind) does (message_no_feed m.feed message m.pending a) fits
 event_caught_up fronts m (event.Idle front) done a does fits = subst (CaughtUpBy fronts m) (sym does) (idled fronts m front m.feed refl (idle_no_feed m.feed front m.pending a) fits)
 event_caught_up fronts m (event.Fed answer) done a does fits = subst (CaughtUpBy (front_of answer ∷ fronts) m) (sym does) (fed_to fronts m answer m.pending refl a fits)
@@ -380,12 +380,12 @@ event_caught_up fronts m (event.Got k) done a does fits =
 event_caught_up fronts m (event.Set answer) done a does fits =
     subst (CaughtUpBy fronts m) (sym does) (answered_to fronts m (event.Set answer) m.pending refl (awaits_reply m.feed m.pending (event.Set answer) refl a) fits)
 
-step_caught_up : (fronts : List ℕ) (m : Machine) (s : Step) (after : Machine) → (made : Steps m s after) → Fits fronts m.feed m.pending → CaughtUpBy (feed_look s.event ++ fronts) m made.done
+step_caught_up : (fronts : List ℕ) (m : Machine) (s : SessionStep) (after : Machine) → (made : Steps m s after) → Fits fronts m.feed m.pending → CaughtUpBy (feed_look s.event ++ fronts) m made.done
 step_caught_up fronts m s after made fits = event_caught_up fronts m s.event made.done made.awaited made.does fits
 
 -- ---- all steps
 
-all_fit : (user : List ℕ) (version : Version) (strict : Bool) (steps : List Step) (m : Machine) → Leads (new_machine user version strict) steps m → Fits (feed_looks steps) m.feed m.pending
+all_fit : (user : List ℕ) (version : Version) (strict : Bool) (steps : List SessionStep) (m : Machine) → Leads (new_machine user version strict) steps m → Fits (feed_looks steps) m.feed m.pending
 all_fit user version strict [] m leads = subst (λ (x : Machine). Fits [] x.feed x.pending) (sym leads) tt
 all_fit user version strict (s ∷ earlier) m (before, leads, made) =
     subst (λ (x : Machine). Fits (feed_look s.event ++ feed_looks earlier) x.feed x.pending) (sym made.leads)
@@ -423,33 +423,33 @@ puts_none m front None n = refl
 puts_none m front (Some r) n =
     elim (nat_lt r.front front) as (λ b. messages_from n (if b then looks_again m [] m.requests r else puts m []).acts ≡ []) [ true ↦ refl | false ↦ refl ]
 
-idle_does : (m : Machine) (s : Step) (after : Machine) (front : ℕ) → s.event ≡ event.Idle front → (made : Steps m s after) → made.done ≡ on_idle m front m.feed
-idle_does m s after front is made = subst (λ x. Does m x made.done) is made.does
+idle_does : (m : Machine) (s : SessionStep) (after : Machine) (front : ℕ) → s.event ≡ event.Idle front → (made : Steps m s after) → made.done ≡ on_idle m front m.feed
+idle_does m s after front is made = subst (λ x. DoesForEvent m x made.done) is made.does
 
-pub idle_looks : (user : List ℕ) (version : Version) (strict : Bool) (earlier : List Step) (m after : Machine) (s : Step) (front : ℕ)
+pub idle_looks : (user : List ℕ) (version : Version) (strict : Bool) (earlier : List SessionStep) (m after : Machine) (s : SessionStep) (front : ℕ)
     → Leads (new_machine user version strict) earlier m → s.event ≡ event.Idle front → Steps m s after → IsSome s.want ↔ IsAboveLast (feed_looks earlier) front
 idle_looks user version strict earlier m after s front leads is made =
     subst (λ w. IsSome w ↔ IsAboveLast (feed_looks earlier) front) (sym (made.want ∙ ap (λ (d : Done). d.want) (idle_does m s after front is made)))
     (looks_iff (feed_looks earlier) m front m.pending m.feed refl (subst (AwaitsBy m.feed m.pending) is made.awaited) (all_fit user version strict earlier m leads))
 
-pub idle_from : (user : List ℕ) (version : Version) (strict : Bool) (earlier : List Step) (m after : Machine) (s : Step) (front : ℕ)
+pub idle_from : (user : List ℕ) (version : Version) (strict : Bool) (earlier : List SessionStep) (m after : Machine) (s : SessionStep) (front : ℕ)
     → Leads (new_machine user version strict) earlier m → s.event ≡ event.Idle front → Steps m s after → IsFromLast (feed_looks earlier) s.want
 idle_from user version strict earlier m after s front leads is made =
     subst (IsFromLast (feed_looks earlier)) (sym (made.want ∙ ap (λ (d : Done). d.want) (idle_does m s after front is made)))
     (looks_from (feed_looks earlier) m front m.feed refl (all_fit user version strict earlier m leads))
 
-pub idle_puts : (m after : Machine) (s : Step) (front : ℕ) → s.event ≡ event.Idle front → Steps m s after → s.puts ≡ []
+pub idle_puts : (m after : Machine) (s : SessionStep) (front : ℕ) → s.event ≡ event.Idle front → Steps m s after → s.puts ≡ []
 idle_puts m after s front is made =
     made.puts ∙ ap (λ (d : Done). messages_from (m.requests + 1) d.acts) (idle_does m s after front is made) ∙ puts_none m front m.feed (m.requests + 1)
 
 -- ---- the empty offers of a feed
 
-begin_caught_up : (m : Machine) (s : Step) (first : Machine) (asked : Subscription) (front : ℕ) (rows : List Row) (fronts : List ℕ) → m.pending ≡ pending.Feed asked → s.event ≡ event.Fed (fed.Rows front rows) → Steps m s first
+begin_caught_up : (m : Machine) (s : SessionStep) (first : Machine) (asked : Subscription) (front : ℕ) (rows : List Row) (fronts : List ℕ) → m.pending ≡ pending.Feed asked → s.event ≡ event.Fed (fed.Rows front rows) → Steps m s first
     → Fits fronts m.feed m.pending → empty_offers s.puts ≡ caught_up_count first.feed
 begin_caught_up m s first asked front rows fronts awaited came made fits =
     let does : made.done ≡ on_first_look m asked (fed.Rows front rows) =
-    subst (λ p. made.done ≡ on_fed m (fed.Rows front rows) p) awaited (subst (λ x. Does m x made.done) came made.does) in
-    let r : Running = first_of asked rows front in
+    subst (λ p. made.done ≡ on_fed m (fed.Rows front rows) p) awaited (subst (λ x. DoesForEvent m x made.done) came made.does) in
+    let r : Running = first_running asked rows front in
     let it : GoesOn (front ∷ fronts) m.version m.requests r = feed_begins m asked front rows fronts (batch_asked fronts m asked awaited fits) in
     let one : ℕ = empty_offers (messages_from 0 (next_acts m.version r)) in
     let all : empty_offers (messages_from (m.requests + 1) (acceptance_act asked.asker ++ next_acts m.version r)) ≡ empty_offers (messages_from (m.requests + 1) (acceptance_act asked.asker)) + one =
@@ -459,11 +459,11 @@ begin_caught_up m s first asked front rows fronts awaited came made fits =
     ap empty_offers made.puts ∙ ap (λ (d : Done). empty_offers (messages_from (m.requests + 1) d.acts)) does
     ∙ sum ∙ sym (ap (λ (x : Machine). caught_up_count x.feed) made.leads ∙ ap (λ (d : Done). caught_up_count d.after.feed) does)
 
-leads_on : (start first : Machine) (earlier : List Step) → Leads start earlier first → (more : List Step) (m : Machine) → LeadsFeed first more m → Leads start (more ++ earlier) m
+leads_on : (start first : Machine) (earlier : List SessionStep) → Leads start earlier first → (more : List SessionStep) (m : Machine) → LeadsFeed first more m → Leads start (more ++ earlier) m
 leads_on start first earlier leads [] m e = subst (Leads start earlier) (sym e) leads
 leads_on start first earlier leads (s ∷ more) m (before, feeds, runs, made) = (before, leads_on start first earlier leads more before feeds, made)
 
-one_more : (fronts : List ℕ) (messages : List Message) (before : Machine) (s : Step) (after : Machine) (feed : Option Running) → before.feed ≡ feed → IsSome feed → Steps before s after → Fits fronts before.feed before.pending
+one_more : (fronts : List ℕ) (messages : List Message) (before : Machine) (s : SessionStep) (after : Machine) (feed : Option Running) → before.feed ≡ feed → IsSome feed → Steps before s after → Fits fronts before.feed before.pending
     → empty_offers messages ≡ caught_up_count before.feed → empty_offers (messages ++ s.puts) ≡ caught_up_count after.feed
 one_more fronts messages before s after None e runs made fits so_far = absurd (false≢true runs)
 one_more fronts messages before s after (Some r) e runs made fits so_far =
@@ -471,15 +471,15 @@ one_more fronts messages before s after (Some r) e runs made fits so_far =
     (step_caught_up fronts before s after made fits).count r e (before.requests + 1) in
     omega (arith, empties_on messages s.puts, so_far, step, ap empty_offers made.puts, ap (λ (x : Machine). caught_up_count x.feed) made.leads)
 
-all_counted : (user : List ℕ) (version : Version) (strict : Bool) (earlier : List Step) (s : Step) (first : Machine) → Leads (new_machine user version strict) (s ∷ earlier) first → empty_offers s.puts ≡ caught_up_count first.feed
-    → (more : List Step) (m : Machine) → LeadsFeed first more m → empty_offers (put_by (more ++ s ∷ [])) ≡ caught_up_count m.feed
+all_counted : (user : List ℕ) (version : Version) (strict : Bool) (earlier : List SessionStep) (s : SessionStep) (first : Machine) → Leads (new_machine user version strict) (s ∷ earlier) first → empty_offers s.puts ≡ caught_up_count first.feed
+    → (more : List SessionStep) (m : Machine) → LeadsFeed first more m → empty_offers (put_by (more ++ s ∷ [])) ≡ caught_up_count m.feed
 all_counted user version strict earlier s first leads begun [] m e = begun ∙ ap (λ (x : Machine). caught_up_count x.feed) (sym e)
 all_counted user version strict earlier s first leads begun (t ∷ more) m (before, feeds, runs, made) =
     one_more (feed_looks (more ++ s ∷ earlier)) (put_by (more ++ s ∷ [])) before t m before.feed refl runs made
     (all_fit user version strict (more ++ s ∷ earlier) before (leads_on (new_machine user version strict) first (s ∷ earlier) leads more before feeds))
     (all_counted user version strict earlier s first leads begun more before feeds)
 
-pub caught_up_once : (user : List ℕ) (version : Version) (strict : Bool) (earlier : List Step) (begin : Step) (more : List Step) (after : Machine) → RunsFeed user version strict earlier begin more after
+pub caught_up_once : (user : List ℕ) (version : Version) (strict : Bool) (earlier : List SessionStep) (begin : SessionStep) (more : List SessionStep) (after : Machine) → RunsFeed user version strict earlier begin more after
     → empty_offers (put_by (more ++ begin ∷ [])) ≡ (if has_caught_up after.feed then 1 else 0)
 caught_up_once user version strict earlier begin more after f =
     all_counted user version strict earlier begin f.first (f.before, f.leads, f.begins)
@@ -496,7 +496,7 @@ caught_up_where : (fronts : List ℕ) (feed : Option Running) (awaited : Pending
 caught_up_where fronts None awaited fits waiting not = absurd (false≢true waiting)
 caught_up_where fronts (Some r) awaited fits waiting not = fits.without_rows (no_feed_then fronts r awaited fits not) waiting
 
-pub waiting_caught_up : (user : List ℕ) (version : Version) (strict : Bool) (earlier : List Step) (begin : Step) (more : List Step) (after : Machine) → RunsFeed user version strict earlier begin more after
+pub waiting_caught_up : (user : List ℕ) (version : Version) (strict : Bool) (earlier : List SessionStep) (begin : SessionStep) (more : List SessionStep) (after : Machine) → RunsFeed user version strict earlier begin more after
     → waits after.feed ≡ true → (after.pending ≡ pending.More → ⊥) → empty_offers (put_by (more ++ begin ∷ [])) ≡ 1
 waiting_caught_up user version strict earlier begin more after f waiting not =
     let leads : Leads (new_machine user version strict) (more ++ begin ∷ earlier) after = leads_on (new_machine user version strict) f.first (begin ∷ earlier) (f.before, f.leads, f.begins) more after f.runs in

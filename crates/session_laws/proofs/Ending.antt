@@ -18,7 +18,7 @@ use Rattle.session_core.specs.declared.event.Event.{Event}
 use Rattle.session_core.specs.declared.machine.Pending.{Pending}
 use Rattle.session_core.specs.declared.machine.Pending.TheVariants as pending
 use Rattle.session_core.specs.State.{Machine, new_machine}
-use Rattle.session_core.specs.Steps.{Step, Leads, put_by}
+use Rattle.session_core.specs.Steps.{SessionStep, Leads, put_by}
 use Rattle.session_mux.specs.declared.frame_why.FrameWhy.{FrameWhy}
 use Rattle.session_mux.specs.declared.frame_why.FrameWhy.TheVariants as why
 use Rattle.session_mux.specs.Frames.{IsBadTaken, why_of}
@@ -28,9 +28,9 @@ use Rattle.session_run.specs.declared.ended.End.TheVariants as end
 use Rattle.session_run.specs.declared.ended.Ended.{Ended}
 use Rattle.session_run.specs.declared.serve.Setup.{Setup}
 use Rattle.session_run.specs.Answered.{Moment}
-use Rattle.session_run.specs.Served.{are_frames, bytes_of, IsBadAfter, IsBad, most_results, EndsBy, IsSentAt, IsClosedAt, IsSession}
+use Rattle.session_run.specs.Served.{are_frames, frame_bytes, IsBadAfter, IsBad, most_results, EndsBy, IsSentAt, IsClosedAt, IsSession}
 use Rattle.session_run.specs.Spent.{most_looks, spent_of}
-use Rattle.session_run.specs.Turns.{SessionTurn, steps_of, frames_of, AreLed}
+use Rattle.session_run.specs.Turns.{SessionTurn, steps_of, turn_frames, AreLed}
 use Rattle.session_laws.specs.Ends.{is_faulty, AreInOrder, AreAcksInOrder}
 use Rattle.session_laws.specs.Exchanges.{asked_by, replied, owed}
 
@@ -85,7 +85,7 @@ last_taken taken earlier last x are results none =
 
 -- ---- the bytes of frames
 
-bytes-append : (xs ys : List Got) → bytes_of (xs ++ ys) ≡ bytes_of xs ++ bytes_of ys
+bytes-append : (xs ys : List Got) → frame_bytes (xs ++ ys) ≡ frame_bytes xs ++ frame_bytes ys
 bytes-append [] ys = refl
 bytes-append (got.Frame bytes ∷ xs) ys = ap (λ (bs : List (List ℕ)). bytes ∷ bs) (bytes-append xs ys)
 bytes-append (got.Text ∷ xs) ys = bytes-append xs ys
@@ -95,11 +95,11 @@ bytes-append (got.Failed ∷ xs) ys = bytes-append xs ys
 bytes-append (got.Memory ∷ xs) ys = bytes-append xs ys
 
 -- those of all results are those that were taken, and that of the last
-bytes_behind : (taken last results : List Got) (x : Got) → results ≡ taken ++ last → last ≡ x ∷ [] → bytes_of results ≡ bytes_of taken ++ bytes_of (x ∷ [])
-bytes_behind taken last results x are is = ap bytes_of (are ∙ ap (λ (l : List Got). taken ++ l) is) ∙ bytes-append taken (x ∷ [])
+bytes_behind : (taken last results : List Got) (x : Got) → results ≡ taken ++ last → last ≡ x ∷ [] → frame_bytes results ≡ frame_bytes taken ++ frame_bytes (x ∷ [])
+bytes_behind taken last results x are is = ap frame_bytes (are ∙ ap (λ (l : List Got). taken ++ l) is) ∙ bytes-append taken (x ∷ [])
 
-bytes_same : (taken last results : List Got) → results ≡ taken ++ last → last ≡ [] → bytes_of results ≡ bytes_of taken
-bytes_same taken last results are none = ap bytes_of (are ∙ ap (λ (l : List Got). taken ++ l) none ∙ append-nil taken)
+bytes_same : (taken last results : List Got) → results ≡ taken ++ last → last ≡ [] → frame_bytes results ≡ frame_bytes taken
+bytes_same taken last results are none = ap frame_bytes (are ∙ ap (λ (l : List Got). taken ++ l) none ∙ append-nil taken)
 
 first_many : (f : FrameParts) (read : Result (List FrameParts) FrameFault) (n : ℕ) (frames : List FrameParts) → with_first f read ≡ Ok frames
     → ((rest : List FrameParts) → read ≡ Ok rest → length rest ≡ n) → length frames ≡ suc n
@@ -133,7 +133,7 @@ module _ (turns : List SessionTurn) (left : Sending) (taken last results : List 
   closes end.Closed earlier by so = refl
   closes end.WireFault earlier (inl by) so = absurd (let e = other_last earlier got.End got.Failed so by.0 in cc)
   closes end.WireFault earlier (inr by) so = absurd (false≢true (no_turn earlier got.End so by.0))
-  closes (end.BadFrame index w) earlier (at, bad, is, bad_so, none) so = absurd (subst (λ (g : Got). IsBad turns left (bytes_of taken) g w) (other_last earlier got.End bad so is) bad_so)
+  closes (end.BadFrame index w) earlier (at, bad, is, bad_so, none) so = absurd (subst (λ (g : Got). IsBad turns left (frame_bytes taken) g w) (other_last earlier got.End bad so is) bad_so)
   closes end.LooksFull earlier by so = absurd (false≢true (no_turn earlier got.End so by.0))
   closes end.TurnsFull earlier by so = absurd (false≢true (no_turn earlier got.End so by.0))
   closes end.Memory earlier (inl (bytes, is), none) so = absurd (let e = other_last earlier got.End (got.Frame bytes) so is in cc)
@@ -142,7 +142,7 @@ module _ (turns : List SessionTurn) (left : Sending) (taken last results : List 
   pub fails : (e : End) (earlier : List Got) → EndsBy turns left e taken last failed → results ≡ earlier ++ got.Failed ∷ [] → e ≡ end.WireFault
   fails end.Closed earlier by so = absurd (let e = other_last earlier got.Failed got.End so by.0 in cc)
   fails end.WireFault earlier by so = refl
-  fails (end.BadFrame index w) earlier (at, bad, is, bad_so, none) so = absurd (subst (λ (g : Got). IsBad turns left (bytes_of taken) g w) (other_last earlier got.Failed bad so is) bad_so)
+  fails (end.BadFrame index w) earlier (at, bad, is, bad_so, none) so = absurd (subst (λ (g : Got). IsBad turns left (frame_bytes taken) g w) (other_last earlier got.Failed bad so is) bad_so)
   fails end.LooksFull earlier by so = absurd (false≢true (no_turn earlier got.Failed so by.0))
   fails end.TurnsFull earlier by so = absurd (false≢true (no_turn earlier got.Failed so by.0))
   fails end.Memory earlier (inl (bytes, is), none) so = absurd (let e = other_last earlier got.Failed (got.Frame bytes) so is in cc)
@@ -158,38 +158,38 @@ module _ (turns : List SessionTurn) (left : Sending) (taken last results : List 
 
   -- ---- by all frames that came
 
-  module _ (read : frames_at 0 (bytes_of taken) ≡ Ok (frames_of turns)) where
-    pub texts : (e : End) (earlier : List Got) → EndsBy turns left e taken last failed → results ≡ earlier ++ got.Text ∷ [] → e ≡ end.BadFrame (length (bytes_of results) + 1) why.NotBinary
+  module _ (read : frames_at 0 (frame_bytes taken) ≡ Ok (turn_frames turns)) where
+    pub texts : (e : End) (earlier : List Got) → EndsBy turns left e taken last failed → results ≡ earlier ++ got.Text ∷ [] → e ≡ end.BadFrame (length (frame_bytes results) + 1) why.NotBinary
     texts end.Closed earlier by so = absurd (let e = other_last earlier got.Text got.End so by.0 in cc)
     texts end.WireFault earlier (inl by) so = absurd (let e = other_last earlier got.Text got.Failed so by.0 in cc)
     texts end.WireFault earlier (inr by) so = absurd (false≢true (no_turn earlier got.Text so by.0))
     texts (end.BadFrame index w) earlier (at, bad, is, bad_so, none) so =
         let text : bad ≡ got.Text = other_last earlier got.Text bad so is in
-        let why_is : w ≡ why.NotBinary = subst (λ (g : Got). IsBad turns left (bytes_of taken) g w) text bad_so in
-        let same : bytes_of results ≡ bytes_of taken = bytes_behind taken last results got.Text are (is ∙ ap (λ (g : Got). g ∷ []) text) ∙ append-nil (bytes_of taken) in
-        let number : index ≡ length (bytes_of results) + 1 = omega (arith, at, ap length same, many 0 (bytes_of taken) (frames_of turns) read) in
-        ap (λ (n : ℕ). end.BadFrame n w) number ∙ ap (end.BadFrame (length (bytes_of results) + 1)) why_is
+        let why_is : w ≡ why.NotBinary = subst (λ (g : Got). IsBad turns left (frame_bytes taken) g w) text bad_so in
+        let same : frame_bytes results ≡ frame_bytes taken = bytes_behind taken last results got.Text are (is ∙ ap (λ (g : Got). g ∷ []) text) ∙ append-nil (frame_bytes taken) in
+        let number : index ≡ length (frame_bytes results) + 1 = omega (arith, at, ap length same, many 0 (frame_bytes taken) (turn_frames turns) read) in
+        ap (λ (n : ℕ). end.BadFrame n w) number ∙ ap (end.BadFrame (length (frame_bytes results) + 1)) why_is
     texts end.LooksFull earlier by so = absurd (false≢true (no_turn earlier got.Text so by.0))
     texts end.TurnsFull earlier by so = absurd (false≢true (no_turn earlier got.Text so by.0))
     texts end.Memory earlier (inl (bytes, is), none) so = absurd (let e = other_last earlier got.Text (got.Frame bytes) so is in cc)
     texts end.Memory earlier (inr is, none) so = absurd (false≢true (no_turn earlier got.Text so is))
 
     -- where no frame came behind those of the turns, all are frames
-    all_read : bytes_of results ≡ bytes_of taken → (fault : FrameFault) → frames_at 0 (bytes_of results) ≡ Err fault → ⊥
+    all_read : frame_bytes results ≡ frame_bytes taken → (fault : FrameFault) → frames_at 0 (frame_bytes results) ≡ Err fault → ⊥
     all_read same fault bad = ok_not_err (ap (frames_at 0) same ∙ read) bad
 
-    no_bytes : (x : Got) → bytes_of (x ∷ []) ≡ [] → last ≡ x ∷ [] → bytes_of results ≡ bytes_of taken
-    no_bytes x none is = bytes_behind taken last results x are is ∙ ap (λ (bs : List (List ℕ)). bytes_of taken ++ bs) none ∙ append-nil (bytes_of taken)
+    no_bytes : (x : Got) → frame_bytes (x ∷ []) ≡ [] → last ≡ x ∷ [] → frame_bytes results ≡ frame_bytes taken
+    no_bytes x none is = bytes_behind taken last results x are is ∙ ap (λ (bs : List (List ℕ)). frame_bytes taken ++ bs) none ∙ append-nil (frame_bytes taken)
 
-    pub faults : (e : End) (fault : FrameFault) → EndsBy turns left e taken last failed → frames_at 0 (bytes_of results) ≡ Err fault → (e ≡ end.BadFrame (length (bytes_of results)) (why_of fault)) ⊎ (e ≡ end.Memory)
+    pub faults : (e : End) (fault : FrameFault) → EndsBy turns left e taken last failed → frames_at 0 (frame_bytes results) ≡ Err fault → (e ≡ end.BadFrame (length (frame_bytes results)) (why_of fault)) ⊎ (e ≡ end.Memory)
     faults end.Closed fault by bad = absurd (all_read (no_bytes got.End refl by.0) fault bad)
     faults end.WireFault fault (inl by) bad = absurd (all_read (no_bytes got.Failed refl by.0) fault bad)
     faults end.WireFault fault (inr by) bad = absurd (all_read (bytes_same taken last results are by.0) fault bad)
     faults (end.BadFrame index w) fault (at, got.Frame bytes, is, bad_so, none) bad =
-        let same : bytes_of results ≡ bytes_of taken ++ bytes ∷ [] = bytes_behind taken last results (got.Frame bytes) are is in
+        let same : frame_bytes results ≡ frame_bytes taken ++ bytes ∷ [] = bytes_behind taken last results (got.Frame bytes) are is in
         let why_is : w ≡ why_of fault = subst (λ (r : Result (List FrameParts) FrameFault). IsBadAfter turns left r w) (ap (frames_at 0) (sym same) ∙ bad) bad_so in
-        let number : index ≡ length (bytes_of results) = omega (arith, at, ap length same, length-append (bytes_of taken) (bytes ∷ []), many 0 (bytes_of taken) (frames_of turns) read) in
-        inl (ap (λ (n : ℕ). end.BadFrame n w) number ∙ ap (end.BadFrame (length (bytes_of results))) why_is)
+        let number : index ≡ length (frame_bytes results) = omega (arith, at, ap length same, length-append (frame_bytes taken) (bytes ∷ []), many 0 (frame_bytes taken) (turn_frames turns) read) in
+        inl (ap (λ (n : ℕ). end.BadFrame n w) number ∙ ap (end.BadFrame (length (frame_bytes results))) why_is)
     faults (end.BadFrame index w) fault (at, got.Text, is, bad_so, none) bad = absurd (all_read (no_bytes got.Text refl is) fault bad)
     faults (end.BadFrame index w) fault (at, got.Idle, is, bad_so, none) bad = absurd bad_so
     faults (end.BadFrame index w) fault (at, got.End, is, bad_so, none) bad = absurd bad_so
@@ -223,13 +223,13 @@ module _ (turns : List SessionTurn) (left : Sending) (taken last results : List 
       let fine = order f is in
       fine_given fine.0 w fine.2 (subst (λ (r : Result Taken TakeFault). IsBadTaken r left w) fine.1 bad)
 
-  pub completes : (e : End) (steps : List Step) (m : Machine) (halted : Option Event) → EndsBy turns left e taken last failed → IsClosedAt e steps m halted
+  pub completes : (e : End) (steps : List SessionStep) (m : Machine) (halted : Option Event) → EndsBy turns left e taken last failed → IsClosedAt e steps m halted
       → list_any is_faulty results ≡ false → failed ≡ [] → length results < most_results → spent_of steps < most_looks → AreAcksInOrder turns left results → (e ≡ end.Closed) ⊎ (e ≡ end.Memory)
   completes end.Closed steps m halted by closed calm_all sent few looks order = inl refl
   completes end.WireFault steps m halted (inl by) closed calm_all sent few looks order = absurd (false≢true (sym (no_fault got.Failed calm_all by.0)))
   completes end.WireFault steps m halted (inr by) closed calm_all sent few looks order = absurd (let e = sym by.1 ∙ sent in cc)
   completes (end.BadFrame index w) steps m halted (at, got.Frame bytes, is, bad_so, none) closed calm_all sent few looks order =
-      absurd (not_bad (frames_at 0 (bytes_of taken ++ bytes ∷ [])) w (subst (λ (bs : List (List ℕ)). AreInOrder turns left (frames_at 0 bs)) (bytes_behind taken last results (got.Frame bytes) are is) order) bad_so)
+      absurd (not_bad (frames_at 0 (frame_bytes taken ++ bytes ∷ [])) w (subst (λ (bs : List (List ℕ)). AreInOrder turns left (frames_at 0 bs)) (bytes_behind taken last results (got.Frame bytes) are is) order) bad_so)
   completes (end.BadFrame index w) steps m halted (at, got.Text, is, bad_so, none) closed calm_all sent few looks order = absurd (false≢true (sym (no_fault got.Text calm_all is)))
   completes (end.BadFrame index w) steps m halted (at, got.Idle, is, bad_so, none) closed calm_all sent few looks order = absurd bad_so
   completes (end.BadFrame index w) steps m halted (at, got.End, is, bad_so, none) closed calm_all sent few looks order = absurd bad_so
@@ -247,7 +247,7 @@ abbrev pub AllLead : Type 0
 AllLead = (user : List ℕ) (version : Version) (strict : Bool) (halted : Option Event) (turns : List SessionTurn) (m : Machine) → AreLed (new_machine user version strict) halted turns m → Leads (new_machine user version strict) (steps_of turns) m
 
 abbrev pub AllReplied : Type 0
-AllReplied = (user : List ℕ) (version : Version) (strict : Bool) (steps : List Step) (m : Machine) → Leads (new_machine user version strict) steps m → replied (put_by steps) ++ owed m.pending ≡ asked_by steps
+AllReplied = (user : List ℕ) (version : Version) (strict : Bool) (steps : List SessionStep) (m : Machine) → Leads (new_machine user version strict) steps m → replied (put_by steps) ++ owed m.pending ≡ asked_by steps
 
 pub replies_at_rest : AllLead → AllReplied → (setup : Setup) (start final : Moment) (ended : Ended) (results : List Got) (sent : List (List ℕ)) (failed : List Gave) → (session : IsSession setup start final ended results sent failed)
     → ended.end ≡ end.Closed → replied (put_by (steps_of session.turns)) ≡ asked_by (steps_of session.turns)

@@ -16,12 +16,12 @@ use Rattle.session_core.specs.declared.replies.Asker.{Asker}
 use Rattle.session_core.specs.declared.machine.Subscription.{Subscription}
 use Rattle.session_core.specs.declared.machine.Pending.{Pending}
 use Rattle.session_core.specs.declared.machine.Pending.TheVariants as pending
-use Rattle.session_core.specs.Acts.{messages_from, request_message, reply_message, acceptance_act, offer_act, wants_no_reply}
+use Rattle.session_core.specs.Acts.{messages_from, act_request, act_reply, acceptance_act, offer_act, wants_no_reply}
 use Rattle.session_core.specs.Conduct.{requests_among, IsKept}
 use Rattle.session_core.specs.Running.{Running, rest, is_none, is_silent, next_acts, next_feed, next_feed_with}
 use Rattle.session_core.specs.State.{Machine, new_machine, Awaits}
-use Rattle.session_core.specs.Steps.{Step, Steps, Leads}
-use Rattle.session_core.specs.Transitions.{Done, goes_on, looks_again, first_of, Does}
+use Rattle.session_core.specs.Steps.{SessionStep, Steps, Leads}
+use Rattle.session_core.specs.Transitions.{Done, goes_on_feed, looks_again, first_running, DoesForEvent}
 use Rattle.session_laws.specs.Batches.{is_offer, offers_among, WantReplies, closed_by, opened_by, open_after}
 use Rattle.session_laws.proofs.Shapes.{OffersNone, nothing_offered, reply_none, Fits, fits_nothing, IsSized, open_of, Shape, stays, looks_next, answers_all, begins_first, has_more, shape}
 
@@ -29,10 +29,10 @@ use Rattle.session_laws.proofs.Shapes.{OffersNone, nothing_offered, reply_none, 
 
 pub messages_on : (n : ℕ) (acts more : List Act) → messages_from n (acts ++ more) ≡ messages_from n acts ++ messages_from (n + requests_among acts) more
 messages_on n [] more = ap (λ k. messages_from k more) (sym (add-zero n))
-messages_on n (act.Reply to kind urgent payload ∷ acts) more = ap (λ ms. reply_message to kind urgent payload ∷ ms) (messages_on n acts more)
+messages_on n (act.Reply to kind urgent payload ∷ acts) more = ap (λ ms. act_reply to kind urgent payload ∷ ms) (messages_on n acts more)
 messages_on n (act.Request payload no_reply ∷ acts) more =
     let count : n + 1 + requests_among acts ≡ n + (1 + requests_among acts) = omega arith in
-    ap (λ ms. request_message n no_reply payload ∷ ms) (messages_on (n + 1) acts more ∙ ap (λ k. messages_from (n + 1) acts ++ messages_from k more) count)
+    ap (λ ms. act_request n no_reply payload ∷ ms) (messages_on (n + 1) acts more ∙ ap (λ k. messages_from (n + 1) acts ++ messages_from k more) count)
 messages_on n (act.Want want ∷ acts) more = messages_on n acts more
 
 counted_on : (first second : List Message) → offers_among (first ++ second) ≡ offers_among first + offers_among second
@@ -154,11 +154,11 @@ offers_nothing f p m x done none fits sized same =
 
 -- where a feed goes on
 feed_goes : (f : Option Running) (p : Pending) (m : Machine) (x : Event) (acts : List Act) (requests : ℕ) (r : Running) → OffersNone acts → requests ≡ m.requests + requests_among acts
-    → closed_by x (open_of f p) ≡ None → Follows f p m x (goes_on m acts requests r)
+    → closed_by x (open_of f p) ≡ None → Follows f p m x (goes_on_feed m acts requests r)
 feed_goes f p m x acts requests r none counted closed =
     let first : List Message = messages_from (m.requests + 1) acts in
     let second : List Message = messages_from (m.requests + 1 + requests_among acts) (next_acts m.version r) in
-    let parts : messages_of m (goes_on m acts requests r) ≡ first ++ second = messages_on (m.requests + 1) acts (next_acts m.version r) in
+    let parts : messages_of m (goes_on_feed m acts requests r) ≡ first ++ second = messages_on (m.requests + 1) acts (next_acts m.version r) in
     let count : offers_among first ≡ 0 = none.none (m.requests + 1) in record {
       fits = fits_nothing (next_feed requests r);
       opens = ap (λ ms. opened_by ms (closed_by x (open_of f p))) parts ∙ ap (opened_by (first ++ second)) closed ∙ opened_on first second None
@@ -184,7 +184,7 @@ follows f p m x done (looks_next r acts requests is none left look closed e) =
 follows f p m x done (answers_all r acts requests is none counted look closed e) = subst (Follows f p m x) (sym e) (feed_goes f p m x acts requests (rest r) none counted closed)
 follows f p m x done (begins_first asked front rows is awaited came e) =
     subst (Follows f p m x) (sym e)
-    (feed_goes f p m x (acceptance_act asked.asker) m.requests (first_of asked rows front) (acceptance_none asked.asker) (omega (arith, acceptance_counted asked.asker))
+    (feed_goes f p m x (acceptance_act asked.asker) m.requests (first_running asked rows front) (acceptance_none asked.asker) (omega (arith, acceptance_counted asked.asker))
     (ap (λ g. closed_by x (open_of g p)) is ∙ closed_none x))
 follows f p m x done (has_more r front rows is awaited left came e) =
     subst (Follows f p m x) (sym e)
@@ -193,15 +193,15 @@ follows f p m x done (has_more r front rows is awaited left came e) =
 
 -- ---- all steps
 
-record Opened (steps : List Step) (m : Machine) : Type 0 where
+record Opened (steps : List SessionStep) (m : Machine) : Type 0 where
   fits : Fits m.feed m.pending
   opens : open_after steps ≡ open_of m.feed m.pending
   sized : IsSized m.pending
 
-step_follows : (m : Machine) (s : Step) (after : Machine) (made : Steps m s after) → Fits m.feed m.pending → Follows m.feed m.pending m s.event made.done
+step_follows : (m : Machine) (s : SessionStep) (after : Machine) (made : Steps m s after) → Fits m.feed m.pending → Follows m.feed m.pending m s.event made.done
 step_follows m s after made fits = follows m.feed m.pending m s.event made.done (shape m s.event made.done made.awaited made.does fits)
 
-one_more : (m : Machine) (s : Step) (earlier : List Step) (after : Machine) → Opened earlier m → Steps m s after → Opened (s ∷ earlier) after
+one_more : (m : Machine) (s : SessionStep) (earlier : List SessionStep) (after : Machine) → Opened earlier m → Steps m s after → Opened (s ∷ earlier) after
 one_more m s earlier after so_far made =
     let one : Follows m.feed m.pending m s.event made.done = step_follows m s after made so_far.fits in
     let opens : opened_by s.puts (closed_by s.event (open_after earlier)) ≡ open_of made.done.after.feed made.done.after.pending =
@@ -212,17 +212,17 @@ one_more m s earlier after so_far made =
       sized = subst (λ (a : Machine). IsSized a.pending) (sym made.leads) one.sized;
     }
 
-opened : (user : List ℕ) (version : Version) (strict : Bool) (steps : List Step) (m : Machine) → Leads (new_machine user version strict) steps m → Opened steps m
+opened : (user : List ℕ) (version : Version) (strict : Bool) (steps : List SessionStep) (m : Machine) → Leads (new_machine user version strict) steps m → Opened steps m
 opened user version strict [] m leads = subst (λ (a : Machine). Opened [] a) (sym leads) (record { fits = tt; opens = refl; sized = tt })
 opened user version strict (s ∷ earlier) m (before, leads, made) = one_more before s earlier m (opened user version strict earlier before leads) made
 
-pub none_while_open : (user : List ℕ) (version : Version) (strict : Bool) (s : Step) (earlier : List Step) (after : Machine)
+pub none_while_open : (user : List ℕ) (version : Version) (strict : Bool) (s : SessionStep) (earlier : List SessionStep) (after : Machine)
     → Leads (new_machine user version strict) (s ∷ earlier) after → IsSome (closed_by s.event (open_after earlier)) → offers_among s.puts ≡ 0
 none_while_open user version strict s earlier after (before, leads, made) some =
     let so_far : Opened earlier before = opened user version strict earlier before leads in
     ap offers_among made.puts ∙ (step_follows before s after made so_far.fits).waits (subst (λ o. IsSome (closed_by s.event o)) so_far.opens some)
 
-pub one_at_most : (user : List ℕ) (version : Version) (strict : Bool) (s : Step) (earlier : List Step) (after : Machine)
+pub one_at_most : (user : List ℕ) (version : Version) (strict : Bool) (s : SessionStep) (earlier : List SessionStep) (after : Machine)
     → Leads (new_machine user version strict) (s ∷ earlier) after → offers_among s.puts ≤ 1
 one_at_most user version strict s earlier after (before, leads, made) =
     subst (λ ms. offers_among ms ≤ 1) (sym made.puts) (step_follows before s after made (opened user version strict earlier before leads).fits).one
@@ -231,11 +231,11 @@ one_at_most user version strict s earlier after (before, leads, made) =
 sized_with : (p : Pending) (asked : Subscription) → p ≡ pending.Feed asked → IsSized p → IsSized (pending.Feed asked)
 sized_with p asked e sized = subst IsSized e sized
 
-pub asked_sized : (user : List ℕ) (version : Version) (strict : Bool) (steps : List Step) (m : Machine) (asked : Subscription)
+pub asked_sized : (user : List ℕ) (version : Version) (strict : Bool) (steps : List SessionStep) (m : Machine) (asked : Subscription)
     → Leads (new_machine user version strict) steps m → m.pending ≡ pending.Feed asked → IsSized (pending.Feed asked)
 asked_sized user version strict steps m asked leads e = sized_with m.pending asked e (opened user version strict steps m leads).sized
 
-pub batch_sized : (user : List ℕ) (version : Version) (strict : Bool) (steps : List Step) (m : Machine) (asked : Subscription)
+pub batch_sized : (user : List ℕ) (version : Version) (strict : Bool) (steps : List SessionStep) (m : Machine) (asked : Subscription)
     → Leads (new_machine user version strict) steps m → m.pending ≡ pending.Feed asked → (1 ≤ asked.batch) × (asked.batch ≤ 10000)
 batch_sized user version strict steps m asked leads e =
     let size : IsSized (pending.Feed asked) = asked_sized user version strict steps m asked leads e in
@@ -243,14 +243,14 @@ batch_sized user version strict steps m asked leads e =
 
 -- what the law of conduct says of what stays
 abbrev pub Keeps : Type 0
-Keeps = (m : Machine) (event : Event) (done : Done) → Awaits m event → Does m event done → IsKept m event done
+Keeps = (m : Machine) (event : Event) (done : Done) → Awaits m event → DoesForEvent m event done → IsKept m event done
 
-pub same_version : Keeps → (user : List ℕ) (version : Version) (strict : Bool) (steps : List Step) (m : Machine) → Leads (new_machine user version strict) steps m → m.version ≡ version
+pub same_version : Keeps → (user : List ℕ) (version : Version) (strict : Bool) (steps : List SessionStep) (m : Machine) → Leads (new_machine user version strict) steps m → m.version ≡ version
 same_version keeps user version strict [] m leads = ap (λ (m : Machine). m.version) leads
 same_version keeps user version strict (s ∷ steps) m (before, leads, made) =
     ap (λ (m : Machine). m.version) made.leads ∙ (keeps before s.event made.done made.awaited made.does).version ∙ same_version keeps user version strict steps before leads
 
-pub replies_wanted : Keeps → (user : List ℕ) (version : Version) (strict : Bool) (s : Step) (earlier : List Step) (after : Machine)
+pub replies_wanted : Keeps → (user : List ℕ) (version : Version) (strict : Bool) (s : SessionStep) (earlier : List SessionStep) (after : Machine)
     → Leads (new_machine user version strict) (s ∷ earlier) after → WantReplies version s.puts
 replies_wanted keeps user version strict s earlier after (before, leads, made) =
     subst (WantReplies version) (sym made.puts)

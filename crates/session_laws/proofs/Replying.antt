@@ -40,8 +40,8 @@ use Rattle.session_core.specs.Acts.{messages_from, reply_act, refusal_by, accept
 use Rattle.session_core.specs.Conduct.{are_requests}
 use Rattle.session_core.specs.Running.{Running, rest, is_none, is_silent, next_acts}
 use Rattle.session_core.specs.State.{Machine, new_machine, AwaitsBy, IsAwaited, IsReply}
-use Rattle.session_core.specs.Steps.{Step, Steps, Leads, put_by}
-use Rattle.session_core.specs.Transitions.{Done, puts, looks_again, answered_by, asker_of, refused, on_sub_changes, on_changes, on_served, on_request, answers, wanted_of, on_wanted, on_reply, first_of, on_first_look, on_next_look, on_fed, on_bodies_of, on_bodies, on_answer, on_idle, Does, DoesByMessage}
+use Rattle.session_core.specs.Steps.{SessionStep, Steps, Leads, put_by}
+use Rattle.session_core.specs.Transitions.{Done, puts, looks_again, answered_by, asker_of, refused, on_sub_changes, on_changes, on_served, on_request, answers, wanted_of, on_wanted, on_reply, first_running, on_first_look, on_next_look, on_fed, on_bodies_of, on_bodies, on_answer, on_idle, DoesForEvent, DoesByMessage}
 use Rattle.session_core.proofs.Awaiting.{awaits_reply}
 use Rattle.session_laws.specs.Exchanges.{wanting, asked_in, asked_at, asked_by, replied, owed}
 
@@ -146,8 +146,8 @@ by_message m message done false e = subst (Answers []) (sym e) (reply_taken m me
 first_look : (m : Machine) (asked : Subscription) (answer : Fed) → Answers (wanting asked.asker.number asked.asker.no_reply) (on_first_look m asked answer)
 first_look m asked (fed.Future front) = refusal m asked.asker (errors.SincePast400 front)
 first_look m asked (fed.Rows front rows) = λ n.
-    append-nil (replied (messages_from n (acceptance_act asked.asker ++ next_acts m.version (first_of asked rows front))))
-    ∙ requests_after n (acceptance_act asked.asker) (next_acts m.version (first_of asked rows front)) (next_requested m.version (first_of asked rows front))
+    append-nil (replied (messages_from n (acceptance_act asked.asker ++ next_acts m.version (first_running asked rows front))))
+    ∙ requests_after n (acceptance_act asked.asker) (next_acts m.version (first_running asked rows front)) (next_requested m.version (first_running asked rows front))
     ∙ one_reply asked.asker kinds.Rpy ok_payload refl n
 
 next_look : (m : Machine) (feed : Option Running) (answer : Fed) → Answers [] (on_next_look m feed answer)
@@ -227,7 +227,7 @@ idle_owed feed front (pending.Reply asker to) a = absurd a
 still_owed : (due : List ℕ) (done : Done) → Answers due done → Answers (due ++ []) done
 still_owed due done is n = is n ∙ sym (append-nil due)
 
-event_replied : (m : Machine) (x : Event) (done : Done) → AwaitsBy m.feed m.pending x → Does m x done → Answers (owed m.pending ++ asked_at x) done
+event_replied : (m : Machine) (x : Event) (done : Done) → AwaitsBy m.feed m.pending x → DoesForEvent m x done → Answers (owed m.pending ++ asked_at x) done
 event_replied m (event.Whole message) done a does n =
     by_message m message done (is_request message.kind) does n ∙ ap (λ (xs : List ℕ). xs ++ asked_in message) (sym (none_owed m.feed message m.pending a))
 event_replied m (event.Idle front) done a does n =
@@ -243,7 +243,7 @@ event_replied m (event.Got k) done a does n =
 event_replied m (event.Set answer) done a does n =
     still_owed (owed m.pending) done (subst (Answers (owed m.pending)) (sym does) (answered_to m (event.Set answer) m.pending (awaits_reply m.feed m.pending (event.Set answer) refl a) a)) n
 
-step_replied : (m : Machine) (s : Step) (after : Machine) → Steps m s after → replied s.puts ++ owed after.pending ≡ owed m.pending ++ asked_at s.event
+step_replied : (m : Machine) (s : SessionStep) (after : Machine) → Steps m s after → replied s.puts ++ owed after.pending ≡ owed m.pending ++ asked_at s.event
 step_replied m s after made =
     ap (λ (ms : List Message). replied ms ++ owed after.pending) made.puts
     ∙ ap (λ (x : Machine). replied (messages_from (m.requests + 1) made.done.acts) ++ owed x.pending) made.leads
@@ -251,7 +251,7 @@ step_replied m s after made =
 
 -- ---- all steps
 
-pub all_replied : (user : List ℕ) (version : Version) (strict : Bool) (steps : List Step) (m : Machine) → Leads (new_machine user version strict) steps m
+pub all_replied : (user : List ℕ) (version : Version) (strict : Bool) (steps : List SessionStep) (m : Machine) → Leads (new_machine user version strict) steps m
     → replied (put_by steps) ++ owed m.pending ≡ asked_by steps
 all_replied user version strict [] m leads = ap (λ (x : Machine). owed x.pending) leads
 all_replied user version strict (s ∷ earlier) m (before, leads, made) =

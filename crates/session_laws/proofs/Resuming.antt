@@ -14,9 +14,9 @@ use Rattle.sg_history.specs.Device.{plain}
 use Rattle.sg_history.specs.Feed.{feed, keeps, row_of, is_start, is_gone, is_deleted}
 use Rattle.sg_history.specs.History.{past}
 use Rattle.feed_rows.specs.Laws.{HasRow, IsAskedFor, IsBelow, Rising, IsAhead, all_of}
-use Rattle.session_core.specs.Feeds.{rows_at, feed_look, feed_looks}
+use Rattle.session_core.specs.Feeds.{feed_rows_at, feed_look, feed_looks}
 use Rattle.session_core.specs.Fronts.{front_by, fronts_of, RiseBetween}
-use Rattle.session_core.specs.Steps.{Step}
+use Rattle.session_core.specs.Steps.{SessionStep}
 use Rattle.session_core.specs.declared.event.Event.{Event}
 use Rattle.session_core.specs.declared.event.Event.TheVariants as event
 use Rattle.session_laws.specs.Rising.{AreFronts, IsWithin}
@@ -99,8 +99,8 @@ widen low [] high most less are = le_trans are less
 widen low (front ∷ earlier) high most less (within, are) = (le_trans within less, are)
 
 last_place : Members → (h : List Entry) (user : List ℕ) (since : Key) (options : Options) (front before : ℕ) (earlier : List ℕ) (high : ℕ) (row : Row) → front ≤ high
-    → HasRow (rows_at h user since options (before ∷ earlier)) row ⊎ HasRow (feed (past h front) user (plain before) options) row
-    → (HasRow (rows_at h user since options (before ∷ earlier)) row → (1 ≤ row.key.by) × (row.key.by ≤ front))
+    → HasRow (feed_rows_at h user since options (before ∷ earlier)) row ⊎ HasRow (feed (past h front) user (plain before) options) row
+    → (HasRow (feed_rows_at h user since options (before ∷ earlier)) row → (1 ≤ row.key.by) × (row.key.by ≤ front))
     → (1 ≤ row.key.by) × (row.key.by ≤ high)
 last_place members h user since options front before earlier high row within (inl first) is = let place = is first in (place.0, le_trans place.1 within)
 last_place members h user since options front before earlier high row within (inr second) is =
@@ -108,14 +108,14 @@ last_place members h user since options front before earlier high row within (in
     (at.some, le_trans at.within within)
 
 -- the rows that a feed was given are of places up to its last front
-rows_place : Members → (h : List Entry) (user : List ℕ) (since : Key) (options : Options) (fronts : List ℕ) (high : ℕ) (row : Row) → AreFronts 0 fronts high → HasRow (rows_at h user since options fronts) row
+rows_place : Members → (h : List Entry) (user : List ℕ) (since : Key) (options : Options) (fronts : List ℕ) (high : ℕ) (row : Row) → AreFronts 0 fronts high → HasRow (feed_rows_at h user since options fronts) row
     → (1 ≤ row.key.by) × (row.key.by ≤ high)
 rows_place members h user since options [] high row are has = absurd has
 rows_place members h user since options (front ∷ []) high row (within, are) has =
     let is : Given front since options row = given members h front user since options row has in
     (is.some, le_trans is.within within)
 rows_place members h user since options (front ∷ before ∷ earlier) high row (within, are) has =
-    last_place members h user since options front before earlier high row within (has_either (rows_at h user since options (before ∷ earlier)) (feed (past h front) user (plain before) options) row has)
+    last_place members h user since options front before earlier high row within (has_either (feed_rows_at h user since options (before ∷ earlier)) (feed (past h front) user (plain before) options) row has)
     (λ first. rows_place members h user since options (before ∷ earlier) front row are first)
 
 by_numbers : (before : ℕ) (row : Row) → row.key.seq ≤ row.key.by → (before < row.key.by) ⊎ ((before ≡ row.key.by) × (before < row.key.seq)) → before < row.key.by
@@ -128,11 +128,11 @@ past_before members plainly h front before user options row has =
     let is : Given front (plain before) options row = given members h front user (plain before) options row has in
     by_numbers before row is.written ((plainly before row.key).0 is.below)
 
-pub rows_rise : Members → Ordered → Plainly → (h : List Entry) (user : List ℕ) (since : Key) (options : Options) (fronts : List ℕ) (high : ℕ) → AreFronts 0 fronts high → Rising (rows_at h user since options fronts)
+pub rows_rise : Members → Ordered → Plainly → (h : List Entry) (user : List ℕ) (since : Key) (options : Options) (fronts : List ℕ) (high : ℕ) → AreFronts 0 fronts high → Rising (feed_rows_at h user since options fronts)
 rows_rise members ordered plainly h user since options [] high are = tt
 rows_rise members ordered plainly h user since options (front ∷ []) high are = ordered (past h front) user since options
 rows_rise members ordered plainly h user since options (front ∷ before ∷ earlier) high (within, (low, are)) =
-    rising_on (rows_at h user since options (before ∷ earlier)) (feed (past h front) user (plain before) options)
+    rising_on (feed_rows_at h user since options (before ∷ earlier)) (feed (past h front) user (plain before) options)
     (rows_rise members ordered plainly h user since options (before ∷ earlier) before (le_refl before, are))
     (ordered (past h front) user (plain before) options)
     (λ row other first second. lesser_below row.key other.key
@@ -160,7 +160,7 @@ look_fronts low middle high (event.Judged outcome) fronts are rise = widen low f
 look_fronts low middle high (event.Got kept) fronts are rise = widen low fronts middle high rise are
 look_fronts low middle high (event.Set answer) fronts are rise = widen low fronts middle high rise are
 
-pub looks_rise : (steps : List Step) (low high : ℕ) → RiseBetween low (fronts_of steps) high → AreFronts low (feed_looks steps) high
+pub looks_rise : (steps : List SessionStep) (low high : ℕ) → RiseBetween low (fronts_of steps) high → AreFronts low (feed_looks steps) high
 looks_rise [] low high rise = rise
 looks_rise (s ∷ earlier) low high rise =
     let parts : (middle : ℕ) × RiseBetween low (fronts_of earlier) middle × RiseBetween middle (front_by s.event) high = rise_split low (fronts_of earlier) (front_by s.event) high rise in
@@ -213,20 +213,20 @@ kept_later plainly options since before row small within e after =
     kept_from options (plain before) row ((plainly before row.key).1 (inl after)) (from_later options since before row small within parts.1 (zero_or_more before)) parts.2
 
 covers_on : Members → Plainly → (h : List Entry) (user : List ℕ) (since : Key) (options : Options) (front before : ℕ) (earlier : List ℕ) (row : Row) → since.seq ≤ since.by → since.by ≤ before → front ≤ length h
-    → HasRow (feed (all_of h) user since options) row → HasRow (rows_at h user since options (before ∷ earlier)) row ⊎ Past (before ∷ earlier) row.key.by
-    → HasRow (rows_at h user since options (front ∷ before ∷ earlier)) row ⊎ Past (front ∷ before ∷ earlier) row.key.by
+    → HasRow (feed (all_of h) user since options) row → HasRow (feed_rows_at h user since options (before ∷ earlier)) row ⊎ Past (before ∷ earlier) row.key.by
+    → HasRow (feed_rows_at h user since options (front ∷ before ∷ earlier)) row ⊎ Past (front ∷ before ∷ earlier) row.key.by
 covers_on members plainly h user since options front before earlier row small within last has (inl there) =
-    inl (has_first (rows_at h user since options (before ∷ earlier)) (feed (past h front) user (plain before) options) row there)
+    inl (has_first (feed_rows_at h user since options (before ∷ earlier)) (feed (past h front) user (plain before) options) row there)
 covers_on members plainly h user since options front before earlier row small within last has (inr after) =
     elim (cases_lt front row.key.by) [
       | inl past ↦ inr past
-      | inr up ↦ inl (has_second (rows_at h user since options (before ∷ earlier)) (feed (past h front) user (plain before) options) row
+      | inr up ↦ inl (has_second (feed_rows_at h user since options (before ∷ earlier)) (feed (past h front) user (plain before) options) row
           (row_there members h front user since (plain before) options row last has up (kept_later plainly options since before row small within (kept_at_end members h user since options row has) after)))
     ]
 
 -- each row at the end was given, or is past the last front
 covers : Members → Plainly → (h : List Entry) (user : List ℕ) (since : Key) (options : Options) (fronts : List ℕ) (high : ℕ) (row : Row) → since.seq ≤ since.by → IsWithin since.by fronts → AreFronts 0 fronts high → high ≤ length h
-    → HasRow (feed (all_of h) user since options) row → HasRow (rows_at h user since options fronts) row ⊎ Past fronts row.key.by
+    → HasRow (feed (all_of h) user since options) row → HasRow (feed_rows_at h user since options fronts) row ⊎ Past fronts row.key.by
 covers members plainly h user since options [] high row small within are low has = inr tt
 covers members plainly h user since options (front ∷ []) high row small within (last, are) low has =
     elim (cases_lt front row.key.by) [
@@ -249,7 +249,7 @@ ahead members h user since options sent row some below has =
     )
 
 resume_in : Members → Ordered → Plainly → (h : List Entry) (user : List ℕ) (since : Key) (options : Options) (fronts : List ℕ) (offered not_yet : List Row) (sent row : Row)
-    → AreFronts 0 fronts (length h) → offered ++ not_yet ≡ rows_at h user since options fronts → HasRow offered sent → HasRow (feed (all_of h) user since options) row
+    → AreFronts 0 fronts (length h) → offered ++ not_yet ≡ feed_rows_at h user since options fronts → HasRow offered sent → HasRow (feed (all_of h) user since options) row
     → HasRow offered row ⊎ HasRow not_yet row
     → HasRow offered row ⊎ IsAhead (feed (all_of h) user sent.key options) sent.key row
 resume_in members ordered plainly h user since options fronts offered not_yet sent row are sum has_sent has (inl there) = inl there
@@ -259,8 +259,8 @@ resume_in members ordered plainly h user since options fronts offered not_yet se
     (rising_below offered not_yet sent row (subst Rising (sym sum) (rows_rise members ordered plainly h user since options fronts (length h) are)) has_sent there) has)
 
 resume_by : Members → Ordered → Plainly → (h : List Entry) (user : List ℕ) (since : Key) (options : Options) (fronts : List ℕ) (offered not_yet : List Row) (sent row : Row)
-    → AreFronts 0 fronts (length h) → offered ++ not_yet ≡ rows_at h user since options fronts → HasRow offered sent → HasRow (feed (all_of h) user since options) row
-    → HasRow (rows_at h user since options fronts) row ⊎ Past fronts row.key.by
+    → AreFronts 0 fronts (length h) → offered ++ not_yet ≡ feed_rows_at h user since options fronts → HasRow offered sent → HasRow (feed (all_of h) user since options) row
+    → HasRow (feed_rows_at h user since options fronts) row ⊎ Past fronts row.key.by
     → HasRow offered row ⊎ IsAhead (feed (all_of h) user sent.key options) sent.key row
 resume_by members ordered plainly h user since options fronts offered not_yet sent row are sum has_sent has (inl there) =
     resume_in members ordered plainly h user since options fronts offered not_yet sent row are sum has_sent has
@@ -272,7 +272,7 @@ resume_by members ordered plainly h user since options (front ∷ earlier) offer
     inr (ahead members h user since options sent row place.0 (lesser_below sent.key row.key (omega (arith, place.1, after))) has)
 
 pub resumes : Members → Ordered → Plainly → (h : List Entry) (user : List ℕ) (since : Key) (options : Options) (fronts : List ℕ) (offered not_yet : List Row) (sent row : Row)
-    → since.seq ≤ since.by → IsWithin since.by fronts → AreFronts 0 fronts (length h) → offered ++ not_yet ≡ rows_at h user since options fronts → HasRow offered sent → HasRow (feed (all_of h) user since options) row
+    → since.seq ≤ since.by → IsWithin since.by fronts → AreFronts 0 fronts (length h) → offered ++ not_yet ≡ feed_rows_at h user since options fronts → HasRow offered sent → HasRow (feed (all_of h) user since options) row
     → HasRow offered row ⊎ IsAhead (feed (all_of h) user sent.key options) sent.key row
 resumes members ordered plainly h user since options fronts offered not_yet sent row small within are sum has_sent has =
     resume_by members ordered plainly h user since options fronts offered not_yet sent row are sum has_sent has

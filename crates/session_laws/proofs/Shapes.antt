@@ -41,7 +41,7 @@ use Rattle.session_core.specs.Conduct.{requests_among}
 use Rattle.session_core.specs.Feeds.{feed_look}
 use Rattle.session_core.specs.Running.{Running, rest, is_none}
 use Rattle.session_core.specs.State.{Machine, AwaitsBy, Awaits, IsReply}
-use Rattle.session_core.specs.Transitions.{Done, puts, asks, goes_on, looks_again, answered_by, asker_of, refused, on_sub_changes, on_changes, on_served, on_request, answers, wanted_of, most_ancestors, on_wanted, on_reply, first_of, on_first_look, on_next_look, on_fed, on_bodies_of, on_bodies, on_answer, on_idle, Does, DoesByMessage}
+use Rattle.session_core.specs.Transitions.{Done, puts, asks, goes_on_feed, looks_again, answered_by, asker_of, refused, on_sub_changes, on_changes, on_served, on_request, answers, wanted_of, most_ancestors, on_wanted, on_reply, first_running, on_first_look, on_next_look, on_fed, on_bodies_of, on_bodies, on_answer, on_idle, DoesForEvent, DoesByMessage}
 use Rattle.session_core.proofs.Awaiting.{awaits_reply}
 use Rattle.session_laws.proofs.BatchSizes.{bounded}
 use Rattle.session_laws.specs.Batches.{offers_among, closed_by}
@@ -128,13 +128,13 @@ pub data Shape (f : Option Running) (p : Pending) (m : Machine) (x : Event) (don
       → done ≡ looks_again m acts requests (rest r) → Shape f p m x done
   -- the rows on offer are answered, and the feed goes on
   answers_all : (r : Running) (acts : List Act) (requests : ℕ) → f ≡ Some r → OffersNone acts → requests ≡ m.requests + requests_among acts → feed_look x ≡ [] → closed_by x (open_of f p) ≡ None
-      → done ≡ goes_on m acts requests (rest r) → Shape f p m x done
+      → done ≡ goes_on_feed m acts requests (rest r) → Shape f p m x done
   -- a feed begins
   begins_first : (asked : Subscription) (front : ℕ) (rows : List Row) → f ≡ None → p ≡ pending.Feed asked → x ≡ event.Fed (fed.Rows front rows)
-      → done ≡ goes_on m (acceptance_act asked.asker) m.requests (first_of asked rows front) → Shape f p m x done
+      → done ≡ goes_on_feed m (acceptance_act asked.asker) m.requests (first_running asked rows front) → Shape f p m x done
   -- a feed has the rows of its next look
   has_more : (r : Running) (front : ℕ) (rows : List Row) → f ≡ Some r → p ≡ pending.More → is_none r.rows ≡ true → x ≡ event.Fed (fed.Rows front rows)
-      → done ≡ goes_on m [] m.requests (record r { rows = rows; front = front }) → Shape f p m x done
+      → done ≡ goes_on_feed m [] m.requests (record r { rows = rows; front = front }) → Shape f p m x done
 
 no_feed_puts : (f : Option Running) (p : Pending) (m : Machine) (x : Event) (acts : List Act)
     → m.feed ≡ f → OffersNone acts → (IsSome f → feed_look x ≡ []) → closed_by x (open_of f p) ≡ open_of f pending.Nothing → Shape f p m x (puts m acts)
@@ -325,7 +325,7 @@ message_shape f pending.More m message done e a does = absurd a
 message_shape f (pending.Bodies rows) m message done e a does = absurd a
 message_shape f (pending.Reply asker to) m message done e a does = absurd a
 
-pub shape : (m : Machine) (x : Event) (done : Done) → Awaits m x → Does m x done → Fits m.feed m.pending → Shape m.feed m.pending m x done
+pub shape : (m : Machine) (x : Event) (done : Done) → Awaits m x → DoesForEvent m x done → Fits m.feed m.pending → Shape m.feed m.pending m x done
 shape m (event.Whole message) done a does fits = message_shape m.feed m.pending m message done refl a does
 shape m (event.Idle front) done a does fits = subst (Shape m.feed m.pending m (event.Idle front)) (sym does) (idle_shape m.feed m.pending m front refl a)
 shape m (event.Fed answer) done a does fits = subst (Shape m.feed m.pending m (event.Fed answer)) (sym does) (fed_shape m.feed m.pending m answer refl fits a)

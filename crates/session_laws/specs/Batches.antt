@@ -15,7 +15,7 @@ use Rattle.repl_messages.specs.Changes.{changes_payload}
 use Rattle.session_core.specs.declared.event.Event.{Event}
 use Rattle.session_core.specs.declared.event.Event.TheVariants as event
 use Rattle.session_core.specs.Running.{is_none}
-use Rattle.session_core.specs.Steps.{Step}
+use Rattle.session_core.specs.Steps.{SessionStep}
 
 -- ---- batches
 
@@ -89,6 +89,6 @@ opened_by [] number = number
 opened_by (m ∷ messages) number = opened_by messages (if is_offer m && not m.no_reply then Some m.number else number)
 
 -- the number of the offer that is open after steps, the last of which is the first of the list
-abbrev pub open_after : List Step → Option ℕ
+abbrev pub open_after : List SessionStep → Option ℕ
 open_after [] = None
 open_after (s ∷ earlier) = opened_by s.puts (closed_by s.event (open_after earlier))

@@ -8,8 +8,8 @@ use Rattle.blip_mux.specs.declared.inbox.Taken.{Taken}
 use Rattle.blip_mux.specs.Joining.{answer_in}
 use Rattle.blip_mux.specs.Sending.{Sending}
 use Rattle.session_mux.specs.Muxed.{IsNoBadAck}
-use Rattle.session_run.specs.Served.{bytes_of}
-use Rattle.session_run.specs.Turns.{SessionTurn, frames_of, events_of}
+use Rattle.session_run.specs.Served.{frame_bytes}
+use Rattle.session_run.specs.Turns.{SessionTurn, turn_frames, events_of}
 
 -- a fault of the wire, or a text message
 abbrev pub is_faulty : Got → Bool
@@ -26,8 +26,8 @@ IsInOrder turns left f = (given : Taken) × (answer_in (events_of turns) f ≡ O
 
 -- what was received are frames, and where one stands behind those of the turns, it is in order
 abbrev pub AreInOrder : List SessionTurn → Sending → Result (List FrameParts) FrameFault → Type 0
-AreInOrder turns left (Ok frames) = (f : FrameParts) → frames ≡ frames_of turns ++ f ∷ [] → IsInOrder turns left f
+AreInOrder turns left (Ok frames) = (f : FrameParts) → frames ≡ turn_frames turns ++ f ∷ [] → IsInOrder turns left f
 AreInOrder turns left (Err fault) = ⊥
 
 abbrev pub AreAcksInOrder : List SessionTurn → Sending → List Got → Type 0
-AreAcksInOrder turns left results = AreInOrder turns left (frames_at 0 (bytes_of results))
+AreAcksInOrder turns left results = AreInOrder turns left (frames_at 0 (frame_bytes results))

@@ -12,7 +12,7 @@ use Rattle.session_core.specs.declared.event.Event.TheVariants as event
 use Rattle.session_core.specs.declared.machine.Pending.{Pending}
 use Rattle.session_core.specs.declared.machine.Pending.TheVariants as pending
 use Rattle.session_core.specs.Running.{Running}
-use Rattle.session_core.specs.Steps.{Step}
+use Rattle.session_core.specs.Steps.{SessionStep}
 
 -- ---- requests and their replies
 
@@ -30,7 +30,7 @@ asked_at (event.Whole message) = asked_in message
 asked_at other = []
 
 -- the numbers of the requests that want a reply, in the order in which they became whole; the last step is the first of the list
-abbrev pub asked_by : List Step → List ℕ
+abbrev pub asked_by : List SessionStep → List ℕ
 asked_by [] = []
 asked_by (s ∷ earlier) = asked_by earlier ++ asked_at s.event
 

@@ -11,7 +11,7 @@ ghost use Rattle.session_laws.specs.Exchanges.{asked_by, replied};
 ghost use Rattle.session_mux.specs.Frames.{why_of};
 ghost use Rattle.session_mux.specs.declared.frame_why.FrameWhy.{FrameWhy};
 ghost use Rattle.session_run.specs.Answered.{Moment};
-ghost use Rattle.session_run.specs.Served.{IsSession, bytes_of, most_results};
+ghost use Rattle.session_run.specs.Served.{IsSession, frame_bytes, most_results};
 ghost use Rattle.session_run.specs.Spent.{most_looks, spent_of};
 ghost use Rattle.session_run.specs.Turns.{steps_of};
 ghost use Rattle.session_run.specs.declared.ended.End.{End};
@@ -40,12 +40,12 @@ pub fn ends()
         (sent : List (List ℕ)) (failed : List Gave) (earlier : List Got)
         → IsSession setup start final ended results sent failed
         → results ≡ earlier ++ Got.Text ∷ []
-        → ended.end ≡ End.BadFrame (length (bytes_of results) + 1) FrameWhy.NotBinary }
+        → ended.end ≡ End.BadFrame (length (frame_bytes results) + 1) FrameWhy.NotBinary }
     ensures frames { (setup : Setup) (start final : Moment) (ended : Ended) (results : List Got)
         (sent : List (List ℕ)) (failed : List Gave) (fault : FrameFault)
         → IsSession setup start final ended results sent failed
-        → frames_at 0 (bytes_of results) ≡ Err fault
-        → (ended.end ≡ End.BadFrame (length (bytes_of results)) (why_of fault))
+        → frames_at 0 (frame_bytes results) ≡ Err fault
+        → (ended.end ≡ End.BadFrame (length (frame_bytes results)) (why_of fault))
         ⊎ (ended.end ≡ End.Memory) }
 {}
 

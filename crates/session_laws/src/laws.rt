@@ -10,10 +10,10 @@ ghost use Rattle.sg_history.specs.Feed.{feed};
 ghost use Rattle.feed_rows.specs.Laws.{HasRow, Rising, IsAhead, all_of};
 ghost use Rattle.repl_messages.specs.declared.request.Version.{Version};
 ghost use Rattle.sync_syntax.specs.declared.tree.Program.{Program};
-ghost use Rattle.session_core.specs.Feeds.{AreOffered, RunsFeed, not_offered, rows_at, feed_looks};
+ghost use Rattle.session_core.specs.Feeds.{AreRowsOffered, RunsFeed, not_offered, feed_rows_at, feed_looks};
 ghost use Rattle.session_core.specs.Fronts.{fronts_of, RiseBetween};
 ghost use Rattle.session_core.specs.State.{Machine};
-ghost use Rattle.session_core.specs.Steps.{Step, put_by};
+ghost use Rattle.session_core.specs.Steps.{SessionStep, put_by};
 ghost use Rattle.write_path.specs.Reads.{IsLaterThanAll};
 ghost use Rattle.sg_outside.specs.declared.sink.Gave.{Gave};
 ghost use Rattle.sg_outside.specs.declared.wire.Got.{Got};
@@ -30,8 +30,8 @@ pub fn order()
     ensures rising { (h : List Entry) (user : List ℕ) (since : Key) (options : Options)
         (fronts : List ℕ) (high : ℕ)
         → AreFronts 0 fronts high
-        → Rising (rows_at h user since options fronts) }
-    ensures fronts { (steps : List Step) (low high : ℕ)
+        → Rising (feed_rows_at h user since options fronts) }
+    ensures fronts { (steps : List SessionStep) (low high : ℕ)
         → RiseBetween low (fronts_of steps) high → AreFronts low (feed_looks steps) high }
 {
     feed_rows::laws::order();
@@ -43,14 +43,14 @@ pub fn order()
 /// stands in the feed from that.
 pub fn resume()
     ensures { (start now : Moment) (h : List Entry) (user : List ℕ) (version : Version)
-        (program : Program) (strict : Bool) (earlier : List Step) (begin : Step)
-        (more : List Step) (after : Machine)
+        (program : Program) (strict : Bool) (earlier : List SessionStep) (begin : SessionStep)
+        (more : List SessionStep) (after : Machine)
         → (runs : RunsFeed user version strict earlier begin more after)
         → AreAnswered start user program strict (more ++ begin ∷ earlier) now
         → IsLaterThanAll now.read h
-        → (offered : List Row) × AreOffered version (put_by (more ++ begin ∷ [])) offered
+        → (offered : List Row) × AreRowsOffered version (put_by (more ++ begin ∷ [])) offered
         × (offered ++ not_offered after.feed
-        ≡ rows_at h user runs.asked.since runs.asked.options
+        ≡ feed_rows_at h user runs.asked.since runs.asked.options
         (feed_looks (more ++ begin ∷ [])))
         × ((sent row : Row) → HasRow offered sent
         → HasRow (feed (all_of h) user runs.asked.since runs.asked.options) row
@@ -69,14 +69,14 @@ pub fn resume()
 pub fn offered()
     ensures { (setup : Setup) (start final : Moment) (ended : Ended) (results : List Got)
         (sent : List (List ℕ)) (failed : List Gave) (h : List Entry)
-        (earlier : List Step) (begin : Step) (more later : List Step) (after : Machine)
+        (earlier : List SessionStep) (begin : SessionStep) (more later : List SessionStep) (after : Machine)
         → (session : IsSession setup start final ended results sent failed)
         → steps_of session.turns ≡ later ++ (more ++ begin ∷ earlier)
         → (runs : RunsFeed setup.user setup.version setup.strict earlier begin more after)
         → IsLaterThanAll final.read h
-        → (offered : List Row) × AreOffered setup.version (put_by (more ++ begin ∷ [])) offered
+        → (offered : List Row) × AreRowsOffered setup.version (put_by (more ++ begin ∷ [])) offered
         × (offered ++ not_offered after.feed
-        ≡ rows_at h setup.user runs.asked.since runs.asked.options
+        ≡ feed_rows_at h setup.user runs.asked.since runs.asked.options
         (feed_looks (more ++ begin ∷ [])))
         × Rising (offered ++ not_offered after.feed) }
 {

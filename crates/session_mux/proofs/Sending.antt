@@ -76,11 +76,11 @@ written_on : (sent : List ℕ) (texts : List (List ℕ)) (frames : List FramePar
 written_on sent [] [] bytes f all one = (one, tt)
 written_on sent [] (g ∷ frames) bytes f all one = absurd all
 written_on sent (text ∷ texts) [] bytes f all one = absurd all
-written_on sent (text ∷ texts) (g ∷ frames) bytes f (first, all) one = (first, written_on (frame.sent_after sent g) texts frames bytes f all one)
+written_on sent (text ∷ texts) (g ∷ frames) bytes f (first, all) one = (first, written_on (frame.payload_sent_after sent g) texts frames bytes f all one)
 
-sent_on : (sent : List ℕ) (frames : List FrameParts) (f : FrameParts) → all_sent sent (frames ++ f ∷ []) ≡ frame.sent_after (all_sent sent frames) f
+sent_on : (sent : List ℕ) (frames : List FrameParts) (f : FrameParts) → all_sent sent (frames ++ f ∷ []) ≡ frame.payload_sent_after (all_sent sent frames) f
 sent_on sent [] f = refl
-sent_on sent (g ∷ frames) f = sent_on (frame.sent_after sent g) frames f
+sent_on sent (g ∷ frames) f = sent_on (frame.payload_sent_after sent g) frames f
 
 as_written : (sent bytes : List ℕ) (f : FrameParts) → WritesAfter sent [] bytes f → IsWrittenAfter sent bytes f
 as_written sent bytes f (text, one, e) = subst (λ b. IsWrittenAfter sent b f) (sym e) one

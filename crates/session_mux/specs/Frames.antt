@@ -21,17 +21,17 @@ why_of (frame_faults.TooLong bytes) = why.FrameTooLong bytes
 why_of (frame_faults.BadChecksum kept computed) = why.BadChecksum kept computed
 
 -- the fault of a frame among those before it; lack of memory is none
-abbrev pub IsFault : TakeFault → FrameWhy → Type 0
-IsFault (take_faults.OutOfOrder number) w = w ≡ why.OutOfOrder number
-IsFault (take_faults.TooLong number) w = w ≡ why.TooLong number
-IsFault (take_faults.Full number) w = w ≡ why.Full number
-IsFault (take_faults.Payload fault) w = w ≡ why.Payload fault
-IsFault take_faults.BadAckPayload w = w ≡ why.BadAckPayload
-IsFault take_faults.Memory w = ⊥
+abbrev pub IsFrameFault : TakeFault → FrameWhy → Type 0
+IsFrameFault (take_faults.OutOfOrder number) w = w ≡ why.OutOfOrder number
+IsFrameFault (take_faults.TooLong number) w = w ≡ why.TooLong number
+IsFrameFault (take_faults.Full number) w = w ≡ why.Full number
+IsFrameFault (take_faults.Payload fault) w = w ≡ why.Payload fault
+IsFrameFault take_faults.BadAckPayload w = w ≡ why.BadAckPayload
+IsFrameFault take_faults.Memory w = ⊥
 
 -- the frame gives nothing, for this fault; or it is an acknowledgement that can't be true of what was sent
 abbrev pub IsBadTaken : Result Taken TakeFault → Sending → FrameWhy → Type 0
-IsBadTaken (Err fault) out w = IsFault fault w
+IsBadTaken (Err fault) out w = IsFrameFault fault w
 IsBadTaken (Ok takens.Nothing) out w = ⊥
 IsBadTaken (Ok (takens.Ack kind number bytes)) out w =
     (is_bad_ack kind number bytes out ≡ true) × (w ≡ why.BadAck (record { number = number; bytes = bytes; sent = sent_of kind number out.waiting }))

@@ -20,7 +20,7 @@ use Rattle.session_mux.specs.declared.frame_why.FrameWhy.TheVariants as whys
 use Rattle.session_mux.specs.declared.mux.Mux.{Mux}
 use Rattle.session_mux.specs.declared.mux.Took.{Took}
 use Rattle.session_mux.specs.declared.mux.Took.TheVariants as took
-use Rattle.session_mux.specs.Frames.{IsBadFrame, IsFault}
+use Rattle.session_mux.specs.Frames.{IsBadFrame, IsFrameFault}
 use Rattle.session_mux.specs.Sent.{AreWrittenFrom, Records, expecting_by}
 
 -- what a frame's acknowledgement does to what is to be sent: one that has come is taken, one that is owed waits
@@ -38,7 +38,7 @@ IsNoBadAck (takens.Owed kind number bytes) s = Unit {0}
 IsNoBadAck (takens.Whole message) s = Unit {0}
 
 -- the frame gave this, and its acknowledgement did what is due
-pub record Gives (m : Mux) (bytes : List ℕ) (given : Taken) (after : Mux) : Type 0 where
+pub record GivesFrame (m : Mux) (bytes : List ℕ) (given : Taken) (after : Mux) : Type 0 where
   pub frame : FrameParts
   pub read : frame_at m.received.value bytes ≡ Ok (frame, after.received.value)
   pub answer : answer_at m.inbox frame ≡ Ok given
@@ -47,16 +47,16 @@ pub record Gives (m : Mux) (bytes : List ℕ) (given : Taken) (after : Mux) : Ty
   pub outbox : after.outbox ≡ after_outbox_steps m.outbox (acknowledged_by given)
 
 -- no message
-abbrev pub IsPart : Taken → Type 0
-IsPart takens.Nothing = Unit {0}
-IsPart (takens.Ack kind number bytes) = Unit {0}
-IsPart (takens.Owed kind number bytes) = Unit {0}
-IsPart (takens.Whole message) = ⊥
+abbrev pub IsPartOfMessage : Taken → Type 0
+IsPartOfMessage takens.Nothing = Unit {0}
+IsPartOfMessage (takens.Ack kind number bytes) = Unit {0}
+IsPartOfMessage (takens.Owed kind number bytes) = Unit {0}
+IsPartOfMessage (takens.Whole message) = ⊥
 
 -- the frame's message is taken, or it gave none, or it is at fault
 abbrev pub IsTaken : Mux → List ℕ → Took → Mux → Type 0
-IsTaken m bytes (took.Whole message) after = Gives m bytes (takens.Whole message) after
-IsTaken m bytes took.Part after = (given : Taken) × IsPart given × Gives m bytes given after
+IsTaken m bytes (took.Whole message) after = GivesFrame m bytes (takens.Whole message) after
+IsTaken m bytes took.Part after = (given : Taken) × IsPartOfMessage given × GivesFrame m bytes given after
 IsTaken m bytes (took.Bad why) after = IsBadFrame (frame_at m.received.value bytes) (answer_at m.inbox) m.outbox why
 IsTaken m bytes took.Memory after = Unit {0}
 
@@ -72,7 +72,7 @@ IsAcked kind number bytes out took.Memory after = ⊥
 abbrev pub IsTookFault : TakeFault → Took → Type 0
 IsTookFault fault (took.Whole message) = ⊥
 IsTookFault fault took.Part = ⊥
-IsTookFault fault (took.Bad why) = IsFault fault why
+IsTookFault fault (took.Bad why) = IsFrameFault fault why
 IsTookFault fault took.Memory = fault ≡ take_faults.Memory
 
 -- a request of the gateway, of this number

@@ -15,7 +15,7 @@ use Rattle.blip_mux.specs.Sending.{Waiting, Sending, is_reply_to, picked_from, a
 use Rattle.blip_mux.specs.Acknowledgements.{Acknowledgement}
 use Rattle.session_core.specs.declared.act.Act.{Act}
 use Rattle.session_core.specs.declared.act.Act.TheVariants as act
-use Rattle.session_core.specs.Acts.{messages_from, request_message, reply_message}
+use Rattle.session_core.specs.Acts.{messages_from, act_request, act_reply}
 use Rattle.session_core.specs.Conduct.{AreAnswers, are_requests, requests_among}
 use Rattle.session_mux.specs.declared.mux.Mux.{Mux}
 use Rattle.session_mux.specs.Sent.{expecting_by}
@@ -28,7 +28,7 @@ requests_put (act.Request payload no_reply ∷ acts) m e = requests_put acts (pu
 requests_put (act.Want want ∷ acts) m e = absurd (false≢true e)
 
 -- a reply is no request
-reply_requests : (s : Sending) (to : ℕ) (kind : Kind) (urgent : Bool) (payload : Payload) → is_reply kind ≡ true → (with_message s (waiting_of (reply_message to kind urgent payload))).requests ≡ s.requests
+reply_requests : (s : Sending) (to : ℕ) (kind : Kind) (urgent : Bool) (payload : Payload) → is_reply kind ≡ true → (with_message s (waiting_of (act_reply to kind urgent payload))).requests ≡ s.requests
 reply_requests s to kinds.Msg urgent payload e = absurd (false≢true e)
 reply_requests s to kinds.Rpy urgent payload e = refl
 reply_requests s to kinds.Err urgent payload e = refl
@@ -76,10 +76,10 @@ PutsApart = (s : InboxState) (out : Sending) (w : Waiting) → AreApart s out �
 abbrev pub PicksApart : Type 0
 PicksApart = (s : InboxState) (out : Sending) → AreApart s out → AreApart s (after_picked out)
 
-request_no_reply : (number : ℕ) (no_reply : Bool) (payload : Payload) (s : InboxState) → is_reply (waiting_of (request_message number no_reply payload)).kind ≡ true → HasCome s number
+request_no_reply : (number : ℕ) (no_reply : Bool) (payload : Payload) (s : InboxState) → is_reply (waiting_of (act_request number no_reply payload)).kind ≡ true → HasCome s number
 request_no_reply number no_reply payload s e = absurd (false≢true e)
 
-expected_apart : (s : InboxState) (number : ℕ) (no_reply : Bool) (payload : Payload) (out : Sending) → AreApart s out → AreApart (expecting_by (request_message number no_reply payload) s) out
+expected_apart : (s : InboxState) (number : ℕ) (no_reply : Bool) (payload : Payload) (out : Sending) → AreApart s out → AreApart (expecting_by (act_request number no_reply payload) s) out
 expected_apart s number true payload out apart = apart
 expected_apart s number false payload out apart = apart
 
@@ -88,12 +88,12 @@ requests_apart law [] m e apart = apart
 requests_apart law (act.Reply to kind urgent payload ∷ acts) m e apart = absurd (false≢true e)
 requests_apart law (act.Request payload no_reply ∷ acts) m e apart =
     requests_apart law acts (put_one (act.Request payload no_reply) m) e
-    (expected_apart m.inbox (m.outbox.requests + 1) no_reply payload (with_message m.outbox (waiting_of (request_message (m.outbox.requests + 1) no_reply payload)))
-    (law m.inbox m.outbox (waiting_of (request_message (m.outbox.requests + 1) no_reply payload)) apart (request_no_reply (m.outbox.requests + 1) no_reply payload m.inbox)))
+    (expected_apart m.inbox (m.outbox.requests + 1) no_reply payload (with_message m.outbox (waiting_of (act_request (m.outbox.requests + 1) no_reply payload)))
+    (law m.inbox m.outbox (waiting_of (act_request (m.outbox.requests + 1) no_reply payload)) apart (request_no_reply (m.outbox.requests + 1) no_reply payload m.inbox)))
 requests_apart law (act.Want want ∷ acts) m e apart = absurd (false≢true e)
 
 -- a reply expects none
-reply_expects : (to : ℕ) (kind : Kind) (urgent : Bool) (payload : Payload) (s : InboxState) → is_reply kind ≡ true → s ≡ expecting_by (reply_message to kind urgent payload) s
+reply_expects : (to : ℕ) (kind : Kind) (urgent : Bool) (payload : Payload) (s : InboxState) → is_reply kind ≡ true → s ≡ expecting_by (act_reply to kind urgent payload) s
 reply_expects to kinds.Msg urgent payload s e = absurd (false≢true e)
 reply_expects to kinds.Rpy urgent payload s e = refl
 reply_expects to kinds.Err urgent payload s e = refl
@@ -105,8 +105,8 @@ pub answers_apart : PutsApart → (due : Option ℕ) (acts : List Act) (m : Mux)
 answers_apart law due [] m a may apart = apart
 answers_apart law due (act.Reply to kind urgent payload ∷ acts) m (is, reply, requests) may apart =
     requests_apart law acts (put_one (act.Reply to kind urgent payload) m) requests
-    (subst (λ s. AreApart s (with_message m.outbox (waiting_of (reply_message to kind urgent payload)))) (reply_expects to kind urgent payload m.inbox reply)
-    (law m.inbox m.outbox (waiting_of (reply_message to kind urgent payload)) apart (λ e. come m due to may is)))
+    (subst (λ s. AreApart s (with_message m.outbox (waiting_of (act_reply to kind urgent payload)))) (reply_expects to kind urgent payload m.inbox reply)
+    (law m.inbox m.outbox (waiting_of (act_reply to kind urgent payload)) apart (λ e. come m due to may is)))
 answers_apart law due (act.Request payload no_reply ∷ acts) m a may apart = requests_apart law (act.Request payload no_reply ∷ acts) m a apart
 answers_apart law due (act.Want want ∷ acts) m a may apart = absurd a
 

@@ -26,7 +26,7 @@ use Rattle.sync_syntax.specs.declared.tree.Program.{Program}
 use Rattle.doc_board.specs.declared.outcome.Outcome.{Outcome}
 use Rattle.doc_board.specs.declared.outcome.Outcome.TheVariants as outcome
 use Rattle.doc_board.specs.Boards.{board_last, board_tree}
-use Rattle.doc_board.specs.Offers.{answer_to}
+use Rattle.doc_board.specs.Offers.{offer_answer}
 use Rattle.checkpoint_store.specs.declared.answers.Kept0.{Kept0}
 use Rattle.checkpoint_store.specs.declared.answers.SetAnswer.{SetAnswer}
 use Rattle.session_core.specs.declared.act.Want.{Want}
@@ -40,7 +40,7 @@ use Rattle.session_core.specs.declared.look.Purpose.TheVariants as purposes
 use Rattle.session_core.specs.Fronts.{judged_at, look_of, stored_by, front_by, looks_of, fronts_of, stored_of, RiseBetween}
 use Rattle.doc_board.specs.Outcomes.{bytes_of}
 use Rattle.session_core.specs.Right.{AreAsked, IsJudgedIn, IsRefusedIn, IsRoomedIn, IsProposedIn, IsRight, AreRight}
-use Rattle.session_core.specs.Steps.{Step, wanted_after}
+use Rattle.session_core.specs.Steps.{SessionStep, wanted_after}
 use Rattle.board_steps.specs.Asks.{AskedAt}
 use Rattle.board_steps.specs.Bodies.{BodiesAt}
 use Rattle.board_steps.specs.Feed.{FeedAt}
@@ -49,7 +49,7 @@ use Rattle.write_path.specs.Proposals.{IsAnswered, IsRefused, IsRoomed, IsStored
 use Rattle.write_path.specs.Reads.{Reads, WasRead, IsOneOf, HasLength, IsLaterThanAll}
 use Rattle.session_run.specs.Judged.{IsJudgedEntry, AreJudged}
 use Rattle.session_run.specs.Answered as answered
-use Rattle.session_run.specs.Answered.{Moment, HasRead, Saw, IsLoaded, IsSet, AreAnswered, AreLooksAt, look_fronts, length_after, recorded_by, AreLength, AreAtLength}
+use Rattle.session_run.specs.Answered.{Moment, HasReadGround, Saw, IsFrontLoaded, IsSet, AreAnswered, AreLooksAt, look_fronts, length_after, recorded_by, AreLength, AreAtLength}
 
 -- what the laws say
 abbrev pub Since : Type 0
@@ -124,7 +124,7 @@ asked_later laws b h offers asked later at =
     record {
       numbers = board_last b;
       seen = λ doc. subst (L doc) (sym whole) (laws.least b doc);
-      answers = at.answers ∙ ap (λ (t : List ℕ → List Node). map (λ (offer : Offer). answer_to (t offer.doc) offer) offers) trees;
+      answers = at.answers ∙ ap (λ (t : List ℕ → List Node). map (λ (offer : Offer). offer_answer (t offer.doc) offer) offers) trees;
     }
 
 judged_later : Laws → (before after : Moment) (program : Program) (strict : Bool) (by : Option (List ℕ)) (r : Revision) (answer : Outcome) (h : List Entry) → IsLaterThanAll after.read h
@@ -201,7 +201,7 @@ no_front : (recorded : Option ℕ) → AreLength recorded []
 no_front None = tt
 no_front (Some n) = tt
 
-answer_by_read : Laws → (before after : Moment) (user : List ℕ) (program : Program) (strict : Bool) (wanted : Want) (e : Event) (front : ℕ) (Holds : BoardState → Type 0) → HasRead before after → Saw before after Holds
+answer_by_read : Laws → (before after : Moment) (user : List ℕ) (program : Program) (strict : Bool) (wanted : Want) (e : Event) (front : ℕ) (Holds : BoardState → Type 0) → HasReadGround before after → Saw before after Holds
     → front_by e ≡ front ∷ [] → (purpose : Purpose) → look_of e ≡ record { front = front; purpose = purpose } ∷ [] → stored_by e ≡ [] → length_after before.recorded e ≡ before.recorded
     → ((b : BoardState) → Holds b → front ≡ length b.log)
     → ((b : BoardState) (h : List Entry) → Holds b → Later (board_book b) (book_of h) → IsRight h user program strict (Some wanted) e)
@@ -224,7 +224,7 @@ loaded_length (Some n) front is = (is, tt)
 risen : (before after : Moment) → before.read ≡ after.read → before.lowest ≤ after.lowest → Reads before.read after.read before.lowest after.lowest
 risen before after same rises = record { added = []; read = sym same; later = tt; lengths = tt; rises = rises }
 
-loaded_answer : Laws → (before after : Moment) (user : List ℕ) (program : Program) (strict : Bool) (front : ℕ) → IsLoaded before front after → OneAnswer before user program strict None (event.Idle front) after
+loaded_answer : Laws → (before after : Moment) (user : List ℕ) (program : Program) (strict : Bool) (front : ℕ) → IsFrontLoaded before front after → OneAnswer before user program strict None (event.Idle front) after
 loaded_answer laws before after user program strict front loaded = record {
   right = λ h later. tt;
   reads = risen before after (sym loaded.read) (subst (λ n. before.lowest ≤ n) (sym loaded.lowest) loaded.rises);
@@ -324,7 +324,7 @@ proposed_looks before after program strict by r (outcome.LogFull509 at entries b
     judged_look before after program strict by r (outcome.LogFull509 at entries bytes) at was.judged was.judged.outcome.0.front
 proposed_looks before after program strict by r outcome.Memory507 reads was = (reads.added, reads.read)
 
-proposed_answer : Laws → (before after : Moment) (user : List ℕ) (program : Program) (strict : Bool) (r : Revision) (answer : Outcome) → answered.IsProposed before user program (strict || r.noconflicts) r answer after
+proposed_answer : Laws → (before after : Moment) (user : List ℕ) (program : Program) (strict : Bool) (r : Revision) (answer : Outcome) → answered.IsProposalAnswered before user program (strict || r.noconflicts) r answer after
     → OneAnswer before user program strict (Some (want.Propose r)) (event.Judged answer) after
 proposed_answer laws before after user program strict r answer was =
     let both : RiseBetween before.lowest (judged_at answer) after.lowest × AreLength before.recorded (judged_at answer) =
@@ -341,21 +341,21 @@ proposed_answer laws before after user program strict r answer was =
 
 -- ---- each event
 
-fed_answer : Laws → (before after : Moment) (user : List ℕ) (program : Program) (strict : Bool) (since : Key) (options : Options) (answer : Fed) → HasRead before after → Saw before after (λ b. FeedAt b.log user since options answer)
+fed_answer : Laws → (before after : Moment) (user : List ℕ) (program : Program) (strict : Bool) (since : Key) (options : Options) (answer : Fed) → HasReadGround before after → Saw before after (λ b. FeedAt b.log user since options answer)
     → OneAnswer before user program strict (Some (want.Feed since options)) (event.Fed answer) after
 fed_answer laws before after user program strict since options answer read saw =
     answer_by_read laws before after user program strict (want.Feed since options) (event.Fed answer) (front_of answer) (λ b. FeedAt b.log user since options answer) read saw refl purposes.Feed refl refl refl
     (λ b at. at.0)
     (λ b h at later. laws.fed b.log h user since options answer (laws.log b.log b.pending h later) at)
 
-bodies_answer : Laws → (before after : Moment) (user : List ℕ) (program : Program) (strict : Bool) (options : Options) (rows : List Row) (most : ℕ) (answer : Bodies) → HasRead before after → Saw before after (λ b. BodiesAt b user options rows most answer)
+bodies_answer : Laws → (before after : Moment) (user : List ℕ) (program : Program) (strict : Bool) (options : Options) (rows : List Row) (most : ℕ) (answer : Bodies) → HasReadGround before after → Saw before after (λ b. BodiesAt b user options rows most answer)
     → OneAnswer before user program strict (Some (want.Bodies options rows most)) (event.Bodies answer) after
 bodies_answer laws before after user program strict options rows most answer read saw =
     answer_by_read laws before after user program strict (want.Bodies options rows most) (event.Bodies answer) answer.front (λ b. BodiesAt b user options rows most answer) read saw refl purposes.Bodies refl refl refl
     (λ b at. at.front)
     (λ b h at later. laws.bodies b h user options rows most answer later at)
 
-asked_answer : Laws → (before after : Moment) (user : List ℕ) (program : Program) (strict : Bool) (offers : List Offer) (answer : Asked) → HasRead before after → Saw before after (λ b. AskedAt b offers answer)
+asked_answer : Laws → (before after : Moment) (user : List ℕ) (program : Program) (strict : Bool) (offers : List Offer) (answer : Asked) → HasReadGround before after → Saw before after (λ b. AskedAt b offers answer)
     → OneAnswer before user program strict (Some (want.Ask offers)) (event.Asked answer) after
 asked_answer laws before after user program strict offers answer read saw =
     answer_by_read laws before after user program strict (want.Ask offers) (event.Asked answer) answer.front (λ b. AskedAt b offers answer) read saw refl purposes.Ask refl refl refl
@@ -389,7 +389,7 @@ no_look_answer laws before after user program strict wanted e reads recorded own
   looks = subst (λ ls. AreLooksAt before.read ls after.read) (sym look) (reads.added, reads.read);
 }
 
-got_answer : Laws → (before after : Moment) (user : List ℕ) (program : Program) (strict : Bool) (client : List ℕ) (answer : Kept0) → HasRead before after
+got_answer : Laws → (before after : Moment) (user : List ℕ) (program : Program) (strict : Bool) (client : List ℕ) (answer : Kept0) → HasReadGround before after
     → OneAnswer before user program strict (Some (want.GetCheckpoint client)) (event.Got answer) after
 got_answer laws before after user program strict client answer read =
     no_look_answer laws before after user program strict (want.GetCheckpoint client) (event.Got answer) read.reads read.recorded read.own refl refl refl refl (λ h. tt)
@@ -399,7 +399,7 @@ set_answer : Laws → (before after : Moment) (user : List ℕ) (program : Progr
 set_answer laws before after user program strict client rev body answer is =
     no_look_answer laws before after user program strict (want.SetCheckpoint client rev body) (event.Set answer) is.reads is.recorded is.own refl refl refl refl (λ h. tt)
 
-one_answer : Laws → (before after : Moment) (user : List ℕ) (program : Program) (strict : Bool) (wanted : Option Want) (e : Event) → answered.IsAnswered before user program strict wanted e after → OneAnswer before user program strict wanted e after
+one_answer : Laws → (before after : Moment) (user : List ℕ) (program : Program) (strict : Bool) (wanted : Option Want) (e : Event) → answered.IsEventAnswered before user program strict wanted e after → OneAnswer before user program strict wanted e after
 one_answer laws before after user program strict None (event.Whole message) a = came_answer laws before after user program strict message a
 one_answer laws before after user program strict None (event.Idle front) a = loaded_answer laws before after user program strict front a
 one_answer laws before after user program strict None (event.Fed answer) a = absurd a
@@ -464,7 +464,7 @@ rise_within low (front ∷ fronts) high (first, rise) =
     let later : (front ≤ high) × AreWithin high fronts = rise_within front fronts high rise in
     (le_trans first later.0, (later.0, later.1))
 
-pub event_within : Laws → (before after : Moment) (user : List ℕ) (program : Program) (strict : Bool) (wanted : Option Want) (e : Event) → answered.IsAnswered before user program strict wanted e after
+pub event_within : Laws → (before after : Moment) (user : List ℕ) (program : Program) (strict : Bool) (wanted : Option Want) (e : Event) → answered.IsEventAnswered before user program strict wanted e after
     → (before.lowest ≤ after.lowest) × AreWithin after.lowest (front_by e)
 event_within laws before after user program strict wanted e a = rise_within before.lowest (front_by e) after.lowest (one_answer laws before after user program strict wanted e a).rise
 
@@ -528,7 +528,7 @@ numbers_on [] second = refl
 numbers_on (w ∷ first) second = ap (λ ns. w.number ∷ ns) (numbers_on first second)
 
 -- all that holds of the steps that were answered
-pub record AllAnswers (start : Moment) (user : List ℕ) (program : Program) (strict : Bool) (steps : List Step) (now : Moment) : Type 0 where
+pub record AllAnswers (start : Moment) (user : List ℕ) (program : Program) (strict : Bool) (steps : List SessionStep) (now : Moment) : Type 0 where
   pub right : (h : List Entry) → IsLaterThanAll now.read h → AreRight h user program strict steps
   pub reads : Reads start.read now.read start.lowest now.lowest
   pub rise : RiseBetween start.lowest (fronts_of steps) now.lowest
@@ -606,11 +606,11 @@ own_on start between now user program stored more earlier later (first, first_is
 )
 
 -- the own entries once the ground has read, and nothing more
-pub own_read : (start now final : Moment) (user : List ℕ) (program : Program) (stored : List ℕ) → HasRead now final → OwnSince start user program stored now → OwnSince start user program stored final
+pub own_read : (start now final : Moment) (user : List ℕ) (program : Program) (stored : List ℕ) → HasReadGround now final → OwnSince start user program stored now → OwnSince start user program stored final
 own_read start now final user program stored reads (added, is, numbers, judged) =
     (added, reads.own ∙ is, numbers, judged_by_now program user start.read now.read final.read reads.reads.added reads.reads.read added judged)
 
-answers_on : Laws → (start between now : Moment) (user : List ℕ) (program : Program) (strict : Bool) (s : Step) (earlier : List Step) → AllAnswers start user program strict earlier between → OneAnswer between user program strict (wanted_after earlier) s.event now → AllAnswers start user program strict (s ∷ earlier) now
+answers_on : Laws → (start between now : Moment) (user : List ℕ) (program : Program) (strict : Bool) (s : SessionStep) (earlier : List SessionStep) → AllAnswers start user program strict earlier between → OneAnswer between user program strict (wanted_after earlier) s.event now → AllAnswers start user program strict (s ∷ earlier) now
 answers_on laws start between now user program strict s earlier all one = record {
   right = λ h later. (one.right h later, all.right h (laws.before between.read now.read between.lowest now.lowest h one.reads later));
   reads = laws.transitive start.read between.read now.read start.lowest between.lowest now.lowest all.reads one.reads;
@@ -624,7 +624,7 @@ answers_on laws start between now user program strict s earlier all one = record
       (looks_rise between.lowest now.lowest s.event one.rise));
 }
 
-pub all_answers : Laws → (start now : Moment) (user : List ℕ) (program : Program) (strict : Bool) (steps : List Step) → AreAnswered start user program strict steps now → AllAnswers start user program strict steps now
+pub all_answers : Laws → (start now : Moment) (user : List ℕ) (program : Program) (strict : Bool) (steps : List SessionStep) → AreAnswered start user program strict steps now → AllAnswers start user program strict steps now
 all_answers laws start now user program strict [] a = subst (AllAnswers start user program strict []) (sym a) (none_answered laws start user program strict)
 all_answers laws start now user program strict (s ∷ earlier) (between, a, one) =
     answers_on laws start between now user program strict s earlier (all_answers laws start between user program strict earlier a) (one_answer laws between now user program strict (wanted_after earlier) s.event one)

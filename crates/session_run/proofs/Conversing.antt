@@ -16,12 +16,12 @@ use Rattle.session_core.specs.Conduct.{due_with, WantsFor, most_answers, is_answ
 use Rattle.session_core.specs.Fronts.{look_of, stored_by, front_by, looks_of, stored_of}
 use Rattle.session_core.specs.Running.{Running}
 use Rattle.session_core.specs.State.{Machine, most_puts}
-use Rattle.session_core.specs.Steps.{Step, Steps, Leads, put_by, wanted_after}
+use Rattle.session_core.specs.Steps.{SessionStep, Steps, Leads, put_by, wanted_after}
 use Rattle.sync_syntax.specs.declared.tree.Program.{Program}
 use Rattle.session_mux.specs.declared.mux.Mux.{Mux}
 use Rattle.session_mux.specs.Sent.{expecting_by, expecting_all}
 use Rattle.session_run.specs.declared.session.Session.{Session}
-use Rattle.session_run.specs.Answered.{Moment, HasRead, IsAnswered}
+use Rattle.session_run.specs.Answered.{Moment, HasReadGround, IsEventAnswered}
 use Rattle.session_run.specs.inner.Held.{IsReady, Makes, Halts, Conversed, Conversing}
 use Rattle.session_run.specs.inner.Putting.{MayReply, put_as}
 use Rattle.session_run.specs.Spent.{spent_by, spent_of}
@@ -93,14 +93,14 @@ at_most_two (pending.Bodies rows) = omega arith
 at_most_two (pending.Reply asker to) = omega arith
 
 -- the one step by the first event
-first_step : (program : Program) (old new : Session) (first : Event) (before now : Moment) (s : Step) (user : List ℕ) (strict : Bool) → is_answer first ≡ false → s.event ≡ first → Leads old.core (s ∷ []) new.core
+first_step : (program : Program) (old new : Session) (first : Event) (before now : Moment) (s : SessionStep) (user : List ℕ) (strict : Bool) → is_answer first ≡ false → s.event ≡ first → Leads old.core (s ∷ []) new.core
     → new.listing.looks ≡ old.listing.looks → new.listing.stored ≡ old.listing.stored → new.listing.spent ≡ old.listing.spent
-    → IsAnswered before old.core.user program old.core.strict None first now
+    → IsEventAnswered before old.core.user program old.core.strict None first now
     → Conversed program old new first before now (s ∷ []) None
 first_step program old new first before now s user strict is event_is leads looks stored spent answered = record {
   leads = leads;
   exchange = event_is;
-  answered = (before, refl, subst (λ e. IsAnswered before old.core.user program old.core.strict None e now) (sym event_is) answered);
+  answered = (before, refl, subst (λ e. IsEventAnswered before old.core.user program old.core.strict None e now) (sym event_is) answered);
   looks = same_looks first old.listing.looks new.listing.looks is looks ∙ ap (λ e. old.listing.looks ++ look_of e) (sym event_is);
   stored = same_stored first old.listing.stored new.listing.stored is stored ∙ ap (λ e. old.listing.stored ++ stored_by e) (sym event_is);
   spent = omega (arith, same_spent first old.listing.spent new.listing.spent is spent, ap spent_by event_is);
@@ -108,7 +108,7 @@ first_step program old new first before now s user strict is event_is leads look
 
 pub begun : (program : Program) (old new : Session) (first : Event) (before now : Moment) (want : Option Want) → is_answer first ≡ false
     → (made : Makes old new first want) → new.listing.looks ≡ old.listing.looks → new.listing.stored ≡ old.listing.stored → new.listing.spent ≡ old.listing.spent
-    → IsAnswered before old.core.user program old.core.strict None first now
+    → IsEventAnswered before old.core.user program old.core.strict None first now
     → WantsFor new.core.feed new.core.pending want → IsReady new → MayReply new.mux (due_with new.core.pending)
     → feed_front old.core.feed ≤ now.lowest → AreWithin now.lowest (front_by first)
     → new.core.requests ≤ old.core.requests + most_puts
@@ -128,7 +128,7 @@ begun program old new first before now want is made looks stored spent answered 
 
 -- ---- an answer
 
-exchange_on : (first : Event) (s : Step) (steps : List Step) → is_answer s.event ≡ true → IsExchange first steps → IsExchange first (s ∷ steps)
+exchange_on : (first : Event) (s : SessionStep) (steps : List SessionStep) → is_answer s.event ≡ true → IsExchange first steps → IsExchange first (s ∷ steps)
 exchange_on first s [] is x = absurd x
 exchange_on first s (t ∷ earlier) is x = (is, x)
 
@@ -142,9 +142,9 @@ spent_on : (old middle new more one : ℕ) → middle ≡ old + more → new ≡
 spent_on old middle new more one a b = omega (arith, a, b)
 
 -- one step more, by an answer
-next_step : (program : Program) (old middle new : Session) (first : Event) (before now after : Moment) (steps : List Step) (s : Step) (answer : Event) (wanted : Want)
+next_step : (program : Program) (old middle new : Session) (first : Event) (before now after : Moment) (steps : List SessionStep) (s : SessionStep) (answer : Event) (wanted : Want)
     → Conversed program old middle first before now steps None → wanted_after steps ≡ Some wanted
-    → s.event ≡ answer → is_answer answer ≡ true → IsAnswered now old.core.user program old.core.strict (Some wanted) answer after
+    → s.event ≡ answer → is_answer answer ≡ true → IsEventAnswered now old.core.user program old.core.strict (Some wanted) answer after
     → Steps middle.core s new.core
     → new.listing.looks ≡ middle.listing.looks ++ look_of answer → new.listing.stored ≡ middle.listing.stored ++ stored_by answer
     → new.listing.spent ≡ middle.listing.spent + spent_by answer
@@ -152,19 +152,19 @@ next_step : (program : Program) (old middle new : Session) (first : Event) (befo
 next_step program old middle new first before now after steps s answer wanted so_far want_is event_is is answered made looks stored spent = record {
   leads = (middle.core, so_far.leads, made);
   exchange = exchange_on first s steps (ap is_answer event_is ∙ is) so_far.exchange;
-  answered = (now, so_far.answered, subst (λ w. IsAnswered now old.core.user program old.core.strict w s.event after) (sym want_is) (subst (λ e. IsAnswered now old.core.user program old.core.strict (Some wanted) e after) (sym event_is) answered));
+  answered = (now, so_far.answered, subst (λ w. IsEventAnswered now old.core.user program old.core.strict w s.event after) (sym want_is) (subst (λ e. IsEventAnswered now old.core.user program old.core.strict (Some wanted) e after) (sym event_is) answered));
   looks = looks_on old.listing.looks middle.listing.looks new.listing.looks (looks_of steps) (look_of s.event) so_far.looks (looks ∙ ap (λ e. middle.listing.looks ++ look_of e) (sym event_is));
   stored = stored_on old.listing.stored middle.listing.stored new.listing.stored (stored_of steps) (stored_by s.event) so_far.stored (stored ∙ ap (λ e. middle.listing.stored ++ stored_by e) (sym event_is));
   spent = spent_on old.listing.spent middle.listing.spent new.listing.spent (spent_of steps) (spent_by s.event) so_far.spent (spent ∙ ap (λ e. middle.listing.spent + spent_by e) (sym event_is));
 }
 
 -- an event for which nothing more was done
-abbrev unmade : Event → Step
+abbrev unmade : Event → SessionStep
 unmade e = record { event = e; puts = []; want = None }
 
-halted_step : (program : Program) (old middle new : Session) (first : Event) (before now after : Moment) (steps : List Step) (answer : Event) (wanted : Want)
+halted_step : (program : Program) (old middle new : Session) (first : Event) (before now after : Moment) (steps : List SessionStep) (answer : Event) (wanted : Want)
     → Conversed program old middle first before now steps None → wanted_after steps ≡ Some wanted
-    → is_answer answer ≡ true → IsAnswered now old.core.user program old.core.strict (Some wanted) answer after
+    → is_answer answer ≡ true → IsEventAnswered now old.core.user program old.core.strict (Some wanted) answer after
     → new.core ≡ middle.core
     → new.listing.looks ≡ middle.listing.looks ++ look_of answer → new.listing.stored ≡ middle.listing.stored ++ stored_by answer
     → new.listing.spent ≡ middle.listing.spent + spent_by answer
@@ -172,7 +172,7 @@ halted_step : (program : Program) (old middle new : Session) (first : Event) (be
 halted_step program old middle new first before now after steps answer wanted so_far want_is is answered same looks stored spent = record {
   leads = subst (Leads old.core steps) (sym same) so_far.leads;
   exchange = exchange_on first (unmade answer) steps is so_far.exchange;
-  answered = (now, so_far.answered, subst (λ w. IsAnswered now old.core.user program old.core.strict w answer after) (sym want_is) answered);
+  answered = (now, so_far.answered, subst (λ w. IsEventAnswered now old.core.user program old.core.strict w answer after) (sym want_is) answered);
   looks = looks_on old.listing.looks middle.listing.looks new.listing.looks (looks_of steps) (look_of answer) so_far.looks looks;
   stored = stored_on old.listing.stored middle.listing.stored new.listing.stored (stored_of steps) (stored_by answer) so_far.stored stored;
   spent = spent_on old.listing.spent middle.listing.spent new.listing.spent (spent_of steps) (spent_by answer) so_far.spent spent;
@@ -182,7 +182,7 @@ halted_step program old middle new first before now after steps answer wanted so
 
 -- what the session read and listed for what was wanted
 pub record Answers (middle asked : Session) (user : List ℕ) (program : Program) (strict : Bool) (now after : Moment) (wanted : Want) (answer : Event) : Type 0 where
-  pub answered : IsAnswered now user program strict (Some wanted) answer after
+  pub answered : IsEventAnswered now user program strict (Some wanted) answer after
   pub is : is_answer answer ≡ true
   pub core : asked.core ≡ middle.core
   pub mux : asked.mux ≡ middle.mux
@@ -191,12 +191,12 @@ pub record Answers (middle asked : Session) (user : List ℕ) (program : Program
   pub spent : asked.listing.spent ≡ middle.listing.spent + spent_by answer
 
 by_user : (program : Program) (old middle asked : Session) (now after : Moment) (wanted : Want) (answer : Event) → middle.core.user ≡ old.core.user → middle.core.strict ≡ old.core.strict
-    → Answers middle asked middle.core.user program middle.core.strict now after wanted answer → IsAnswered now old.core.user program old.core.strict (Some wanted) answer after
+    → Answers middle asked middle.core.user program middle.core.strict now after wanted answer → IsEventAnswered now old.core.user program old.core.strict (Some wanted) answer after
 by_user program old middle asked now after wanted answer user strict got =
-    subst (λ s. IsAnswered now old.core.user program s (Some wanted) answer after) strict (subst (λ u. IsAnswered now u program middle.core.strict (Some wanted) answer after) user got.answered)
+    subst (λ s. IsEventAnswered now old.core.user program s (Some wanted) answer after) strict (subst (λ u. IsEventAnswered now u program middle.core.strict (Some wanted) answer after) user got.answered)
 
 -- the answer was taken
-pub went_on : (program : Program) (old middle asked new : Session) (first : Event) (before now after : Moment) (steps : List Step) (answer : Event) (wanted : Want) (want : Option Want)
+pub went_on : (program : Program) (old middle asked new : Session) (first : Event) (before now after : Moment) (steps : List SessionStep) (answer : Event) (wanted : Want) (want : Option Want)
     → Conversing program old middle first before now (Some wanted) steps
     → Answers middle asked middle.core.user program middle.core.strict now after wanted answer
     → (made : Makes asked new answer want) → new.listing ≡ asked.listing
@@ -221,11 +221,11 @@ went_on program old middle asked new first before now after steps answer wanted 
 }
 
 -- memory ran out as the answer was taken
-pub halted_at : (program : Program) (old middle asked new : Session) (first : Event) (before now after : Moment) (steps : List Step) (answer : Event) (wanted : Want)
+pub halted_at : (program : Program) (old middle asked new : Session) (first : Event) (before now after : Moment) (steps : List SessionStep) (answer : Event) (wanted : Want)
     → Conversing program old middle first before now (Some wanted) steps
     → Answers middle asked middle.core.user program middle.core.strict now after wanted answer
-    → Halts asked new answer → new.listing ≡ asked.listing → HasRead after after
-    → (made : List Step) × (halted : Option Event) × (last : Moment) × Conversed program old new first before last made halted × HasRead last after
+    → Halts asked new answer → new.listing ≡ asked.listing → HasReadGround after after
+    → (made : List SessionStep) × (halted : Option Event) × (last : Moment) × Conversed program old new first before last made halted × HasReadGround last after
 halted_at program old middle asked new first before now after steps answer wanted so_far got (inl same) listing read = (
   steps,
   Some answer,
@@ -247,8 +247,8 @@ halted_at program old middle asked new first before now after steps answer wante
 -- memory ran out as the first event was taken
 pub halted_first : (program : Program) (old new : Session) (first : Event) (before now : Moment) → is_answer first ≡ false
     → Halts old new first → new.listing.looks ≡ old.listing.looks → new.listing.stored ≡ old.listing.stored → new.listing.spent ≡ old.listing.spent
-    → IsAnswered before old.core.user program old.core.strict None first now → HasRead now now
-    → (steps : List Step) × (halted : Option Event) × (last : Moment) × Conversed program old new first before last steps halted × HasRead last now
+    → IsEventAnswered before old.core.user program old.core.strict None first now → HasReadGround now now
+    → (steps : List SessionStep) × (halted : Option Event) × (last : Moment) × Conversed program old new first before last steps halted × HasReadGround last now
 halted_first program old new first before now is (inl same) looks stored spent answered read = (
   [],
   Some first,
@@ -267,10 +267,10 @@ halted_first program old new first before now is (inr (s, made, event_is)) looks
     (s ∷ [], None, now, first_step program old new first before now s old.core.user old.core.strict is event_is (old.core, refl, made) looks stored spent answered, read)
 
 -- memory ran out as the history was read
-pub halted_read : (program : Program) (old middle new : Session) (first : Event) (before now after : Moment) (want : Option Want) (steps : List Step)
+pub halted_read : (program : Program) (old middle new : Session) (first : Event) (before now after : Moment) (want : Option Want) (steps : List SessionStep)
     → Conversing program old middle first before now want steps → new.core ≡ middle.core → new.listing.looks ≡ middle.listing.looks → new.listing.stored ≡ middle.listing.stored → new.listing.spent ≡ middle.listing.spent
-    → HasRead now after
-    → (made : List Step) × (halted : Option Event) × (last : Moment) × Conversed program old new first before last made halted × HasRead last after
+    → HasReadGround now after
+    → (made : List SessionStep) × (halted : Option Event) × (last : Moment) × Conversed program old new first before last made halted × HasReadGround last after
 halted_read program old middle new first before now after want steps so_far core looks stored spent read = (
   steps,
   None,

@@ -23,7 +23,7 @@ use Rattle.session_core.specs.declared.machine.Pending.TheVariants as pending
 use Rattle.session_core.specs.Conduct.{feed_front}
 use Rattle.session_core.specs.Fronts.{looks_of, stored_of}
 use Rattle.session_core.specs.State.{Machine, most_puts}
-use Rattle.session_core.specs.Steps.{Step, wanted_after}
+use Rattle.session_core.specs.Steps.{SessionStep, wanted_after}
 use Rattle.session_mux.specs.declared.frame_why.FrameWhy.{FrameWhy}
 use Rattle.session_mux.specs.Frames.{IsBadFrame, IsBadTaken}
 use Rattle.session_mux.specs.Sent.{Records}
@@ -32,11 +32,11 @@ use Rattle.session_run.specs.declared.ended.End.TheVariants as end
 use Rattle.session_run.specs.declared.ended.Ended.{Ended}
 use Rattle.session_run.specs.declared.serve.Setup.{Setup}
 use Rattle.session_run.specs.declared.session.Session.{Session}
-use Rattle.session_run.specs.Answered.{Moment, HasRead, AreAnswered}
+use Rattle.session_run.specs.Answered.{Moment, HasReadGround, AreAnswered}
 use Rattle.session_run.specs.inner.Held.{IsAtRest, Holds, Turned, Leaves, Takes, Runs, RunsOn}
-use Rattle.session_run.specs.Served.{bytes_of, IsBadAfter, EndsBy, IsSentAt, IsClosedAt, IsStillAt, IsSession, IsServed}
+use Rattle.session_run.specs.Served.{frame_bytes, IsBadAfter, EndsBy, IsSentAt, IsClosedAt, IsStillAt, IsSession, IsServed}
 use Rattle.session_run.specs.Spent.{most_looks, spent_of, NeedsMore}
-use Rattle.session_run.specs.Turns.{SessionTurn, undone, steps_of, frames_of, events_of}
+use Rattle.session_run.specs.Turns.{SessionTurn, undone, steps_of, turn_frames, events_of}
 use Rattle.session_run.proofs.Holding.{Came, Expects, Joins, Received, received_on, front_ok, front_err, written_more, looks_after, stored_after, spent_after, turn_answered, holds_on}
 use Rattle.session_run.proofs.Taking.{Kept, Wants}
 
@@ -72,7 +72,7 @@ abbrev pub IsMetBy : End → Type 0
 IsMetBy end.LooksFull = ⊥
 IsMetBy other = Unit {0}
 
-closed : (e : End) (steps : List Step) (m : Machine) → IsMetBy e → m.pending ≡ pending.Nothing → IsClosedAt e steps m None
+closed : (e : End) (steps : List SessionStep) (m : Machine) → IsMetBy e → m.pending ≡ pending.Nothing → IsClosedAt e steps m None
 closed end.Closed steps m met rest = (rest, refl)
 closed end.WireFault steps m met rest = (inl rest, refl)
 closed (end.BadFrame index w) steps m met rest = (rest, refl)
@@ -93,7 +93,7 @@ ended_as e s = record { end = e; looks = s.listing.looks; stored = s.listing.sto
 
 -- a session that ends after its turns, by these last results
 session_after : (setup : Setup) (start now : Moment) (s : Session) (turns : List SessionTurn) (frames : List FrameParts) (results last : List Got) (sent : List (List ℕ)) (e : End) (failed : List Gave)
-    → Holds setup start now s turns frames results sent → HasRead now now → length (results ++ last) ≤ 1099511627776 → IsMetBy e → EndsBy turns s.mux.outbox e results last failed
+    → Holds setup start now s turns frames results sent → HasReadGround now now → length (results ++ last) ≤ 1099511627776 → IsMetBy e → EndsBy turns s.mux.outbox e results last failed
     → IsSession setup start now (ended_as e s) (results ++ last) sent failed
 session_after setup start now s turns frames results last sent e failed held read count met by = record {
   turns = turns;
@@ -108,7 +108,7 @@ session_after setup start now s turns frames results last sent e failed held rea
   count = count;
   taken_are = held.taken;
   kinds = held.kinds;
-  read = ap (frames_at 0) (sym (append-nil (bytes_of results))) ∙ held.read [] ∙ front_ok (frames_of turns) [] ∙ ap Ok (append-nil (frames_of turns));
+  read = ap (frames_at 0) (sym (append-nil (frame_bytes results))) ∙ held.read [] ∙ front_ok (turn_frames turns) [] ∙ ap Ok (append-nil (turn_frames turns));
   joined = held.joined;
   led = held.led;
   closed = closed e (steps_of turns) s.core met held.rest.pending;
@@ -132,7 +132,7 @@ at_most_one results last count e below few = omega (arith, length-append results
 
 -- by these last results, at most one, in which no turn is
 pub run_ends : RecordsOn → (setup : Setup) (start now final : Moment) (traffic traffic_now traffic_after : Option Traffic) (s new : Session) (count : ℕ) (e : End) (last : List Got)
-    → final ≡ now → HasRead now now → new.listing.looks ≡ s.listing.looks → new.listing.stored ≡ s.listing.stored
+    → final ≡ now → HasReadGround now now → new.listing.looks ≡ s.listing.looks → new.listing.stored ≡ s.listing.stored
     → count + length last ≤ 1099511627776 → IsMetBy e
     → ((turns : List SessionTurn) (frames : List FrameParts) (results : List Got) (sent : List (List ℕ)) → Holds setup start now s turns frames results sent → length results ≡ count → EndsBy turns s.mux.outbox e results last [])
     → Records traffic_now last [] [] traffic_after
@@ -173,7 +173,7 @@ turn_session came_law joins setup start now final old new turns frames results s
       count = count;
       taken_are = got.taken;
       kinds = got.kinds;
-      read = ap (frames_at 0) (sym (append-nil (bytes_of (results ++ result ∷ [])))) ∙ got.read [] ∙ front_ok (frames_of (t ∷ turns)) [] ∙ ap Ok (append-nil (frames_of (t ∷ turns)));
+      read = ap (frames_at 0) (sym (append-nil (frame_bytes (results ++ result ∷ [])))) ∙ got.read [] ∙ front_ok (turn_frames (t ∷ turns)) [] ∙ ap Ok (append-nil (turn_frames (t ∷ turns)));
       joined = (got.joined, held.joined);
       led = (old.core, held.led, did.leads, did.called);
       closed = is_closed;
@@ -195,15 +195,15 @@ turn_session came_law joins setup start now final old new turns frames results s
 bad_bytes : (turns : List SessionTurn) (left : Sending) (found : Result (FrameParts × ℕ) FrameFault) (answer : FrameParts → Result Taken TakeFault) (w : FrameWhy)
     → ((f : FrameParts) → answer f ≡ answer_in (events_of turns) f)
     → IsBadFrame found answer left w
-    → IsBadAfter turns left (with_front (frames_of turns) (found >>= λ one. with_first one.0 (frames_at one.1 []))) w
-bad_bytes turns left (Err fault) answer w same bad = subst (λ r. IsBadAfter turns left r w) (sym (front_err (frames_of turns) fault)) bad
+    → IsBadAfter turns left (with_front (turn_frames turns) (found >>= λ one. with_first one.0 (frames_at one.1 []))) w
+bad_bytes turns left (Err fault) answer w same bad = subst (λ r. IsBadAfter turns left r w) (sym (front_err (turn_frames turns) fault)) bad
 bad_bytes turns left (Ok one) answer w same bad =
-    subst (λ r. IsBadAfter turns left r w) (sym (front_ok (frames_of turns) (one.0 ∷ []))) (one.0, refl, subst (λ r. IsBadTaken r left w) (same one.0) bad)
+    subst (λ r. IsBadAfter turns left r w) (sym (front_ok (turn_frames turns) (one.0 ∷ []))) (one.0, refl, subst (λ r. IsBadTaken r left w) (same one.0) bad)
 
 bad_after : Joins → (setup : Setup) (start now : Moment) (s : Session) (turns : List SessionTurn) (frames : List FrameParts) (results : List Got) (sent : List (List ℕ)) (bytes : List ℕ) (w : FrameWhy)
     → Holds setup start now s turns frames results sent
     → IsBadFrame (frame_at s.mux.received.value bytes) (answer_at s.mux.inbox) s.mux.outbox w
-    → IsBadAfter turns s.mux.outbox (frames_at 0 (bytes_of results ++ bytes ∷ [])) w
+    → IsBadAfter turns s.mux.outbox (frames_at 0 (frame_bytes results ++ bytes ∷ [])) w
 bad_after joins setup start now s turns frames results sent bytes w held bad =
     subst (λ r. IsBadAfter turns s.mux.outbox r w) (sym (held.read (bytes ∷ [])))
     (bad_bytes turns s.mux.outbox (frame_at s.mux.received.value bytes) (answer_at s.mux.inbox) w (λ f. joins s.mux.inbox (events_of turns) f held.inbox) bad)
@@ -243,7 +243,7 @@ turn_ends law came_law joins setup start now final traffic traffic_now traffic_b
 
 -- that takes part in no turn
 leaves_ends : RecordsOn → (setup : Setup) (start now final : Moment) (traffic traffic_now traffic_between traffic_after : Option Traffic) (old new : Session) (count : ℕ) (bytes : List ℕ) (e : End)
-    → count < 1099511627776 → HasRead now now → IsMetBy e
+    → count < 1099511627776 → HasReadGround now now → IsMetBy e
     → Records traffic_now (got.Frame bytes ∷ []) [] [] traffic_between
     → ((turns : List SessionTurn) (frames : List FrameParts) (results : List Got) (sent : List (List ℕ)) → Holds setup start now old turns frames results sent → length results ≡ count → EndsBy turns old.mux.outbox e results (got.Frame bytes ∷ []) [])
     → Leaves old new now final traffic_between traffic_after
@@ -253,7 +253,7 @@ leaves_ends law setup start now final traffic traffic_now traffic_between traffi
     (law traffic_now traffic_between traffic_after (got.Frame bytes ∷ []) [] [] [] [] records leaves.records) runs
 
 memory_ends : RecordsOn → Came → Joins → (setup : Setup) (start now final : Moment) (traffic traffic_now traffic_between traffic_after : Option Traffic) (old new : Session) (count : ℕ) (result : Got)
-    → count < 1099511627776 → HasRead now now
+    → count < 1099511627776 → HasReadGround now now
     → Records traffic_now (result ∷ []) [] [] traffic_between
     → Takes (arc_value setup.program) old new result now final traffic_between traffic_after (Some end.Memory) → new.listing.spent ≤ most_looks
     → Runs setup start now traffic old traffic_now count → IsServed setup start final traffic (ended_as end.Memory new) traffic_after
@@ -265,7 +265,7 @@ memory_ends law came_law joins setup start now final traffic traffic_now traffic
     (λ turns frames results sent held counted. (inl (bytes, refl), refl)) leaves runs
 
 -- what is wanted after a turn's steps is wanted after all
-wanted_in : (steps earlier : List Step) (want : Want) → wanted_after steps ≡ Some want → wanted_after (steps ++ earlier) ≡ Some want
+wanted_in : (steps earlier : List SessionStep) (want : Want) → wanted_after steps ≡ Some want → wanted_after (steps ++ earlier) ≡ Some want
 wanted_in [] earlier want e = absurd (none-some want e)
 wanted_in (s ∷ steps) earlier want e = e
 
@@ -280,7 +280,7 @@ rests_in old new turns t did held (inl rest) = inl rest
 rests_in old new turns t did held (inr more) = inr (more_in old new turns t did held more)
 
 taken_by : RecordsOn → Came → Expects → Joins → Kept → Wants → (setup : Setup) (start now final : Moment) (traffic traffic_now traffic_between traffic_after : Option Traffic) (old new : Session) (count : ℕ) (result : Got) (ends : Option End)
-    → count < 1099511627776 → HasRead now now
+    → count < 1099511627776 → HasReadGround now now
     → Records traffic_now (result ∷ []) [] [] traffic_between
     → Takes (arc_value setup.program) old new result now final traffic_between traffic_after ends → new.listing.spent ≤ most_looks
     → Runs setup start now traffic old traffic_now count → RunsOn setup start final traffic new traffic_after count ends
@@ -303,7 +303,7 @@ taken_by law came_law expects joins kept wants setup start now final traffic tra
     memory_ends law came_law joins setup start now final traffic traffic_now traffic_between traffic_after old new count result below read records takes few runs
 
 pub result_taken : (program : Program) → RecordsOn → Came → Expects → Joins → Kept → Wants → (setup : Setup) (start now final : Moment) (traffic traffic_now traffic_between traffic_after : Option Traffic) (old new : Session) (count : ℕ) (result : Got) (ends : Option End)
-    → arc_value setup.program ≡ program → count < 1099511627776 → HasRead now now
+    → arc_value setup.program ≡ program → count < 1099511627776 → HasReadGround now now
     → Records traffic_now (result ∷ []) [] [] traffic_between
     → Takes program old new result now final traffic_between traffic_after ends → new.listing.spent ≤ most_looks
     → Runs setup start now traffic old traffic_now count → RunsOn setup start final traffic new traffic_after count ends

@@ -24,16 +24,16 @@ use Rattle.session_core.specs.Conduct.{WantsFor}
 use Rattle.session_core.specs.Fronts.{look_of, stored_by, looks_of, stored_of}
 use Rattle.session_core.specs.Running.{Running}
 use Rattle.session_core.specs.State.{Machine, new_machine}
-use Rattle.session_core.specs.Steps.{Step, Steps, Leads, put_by, wanted_after}
+use Rattle.session_core.specs.Steps.{SessionStep, Steps, Leads, put_by, wanted_after}
 use Rattle.sync_syntax.specs.declared.tree.Program.{Program}
 use Rattle.session_mux.specs.Sent.{expecting_by, expecting_all}
 use Rattle.session_run.specs.declared.serve.Setup.{Setup}
 use Rattle.session_run.specs.declared.session.Session.{Session}
-use Rattle.session_run.specs.Answered.{Moment, IsAnswered, AreAnswered}
+use Rattle.session_run.specs.Answered.{Moment, IsEventAnswered, AreAnswered}
 use Rattle.session_run.specs.inner.Held.{IsAtRest, IsRead, Holds, Turned, inbox_after, counted}
-use Rattle.session_run.specs.Served.{are_frames, bytes_of}
+use Rattle.session_run.specs.Served.{are_frames, frame_bytes}
 use Rattle.session_run.specs.Spent.{most_looks, spent_of}
-use Rattle.session_run.specs.Turns.{SessionTurn, steps_of, frame_in, frames_of, is_frame, framed, framed_by, events_of, came_after, put_after, all_put_after, IsJoined}
+use Rattle.session_run.specs.Turns.{SessionTurn, steps_of, frame_in, turn_frames, is_frame, framed, framed_by, events_of, came_after, put_after, all_put_after, IsJoined}
 use Rattle.session_run.proofs.Taking.{Kept, Wants}
 
 -- ---- what is expected
@@ -81,7 +81,7 @@ frames_on (got.End ∷ results) more e f = absurd (false≢true e)
 frames_on (got.Failed ∷ results) more e f = absurd (false≢true e)
 frames_on (got.Memory ∷ results) more e f = absurd (false≢true e)
 
-bytes_on : (results more : List Got) → bytes_of (results ++ more) ≡ bytes_of results ++ bytes_of more
+bytes_on : (results more : List Got) → frame_bytes (results ++ more) ≡ frame_bytes results ++ frame_bytes more
 bytes_on [] more = refl
 bytes_on (got.Frame first ∷ results) more = ap (λ bs. first ∷ bs) (bytes_on results more)
 bytes_on (got.Text ∷ results) more = bytes_on results more
@@ -101,12 +101,12 @@ kinds_on (got.Memory ∷ results) more = ap (λ bs. false ∷ bs) (kinds_on resu
 
 -- one frame more is read
 read_on : (results : List Got) (frames : List FrameParts) (f : FrameParts) (bytes : List ℕ) (value value_after : ℕ)
-    → ((later : List (List ℕ)) → frames_at 0 (bytes_of results ++ later) ≡ with_front frames (frames_at value later))
+    → ((later : List (List ℕ)) → frames_at 0 (frame_bytes results ++ later) ≡ with_front frames (frames_at value later))
     → frame_at value bytes ≡ Ok (f, value_after)
-    → (later : List (List ℕ)) → frames_at 0 (bytes_of (results ++ got.Frame bytes ∷ []) ++ later) ≡ with_front (frames ++ f ∷ []) (frames_at value_after later)
+    → (later : List (List ℕ)) → frames_at 0 (frame_bytes (results ++ got.Frame bytes ∷ []) ++ later) ≡ with_front (frames ++ f ∷ []) (frames_at value_after later)
 read_on results frames f bytes value value_after read one later =
     ap (λ bs. frames_at 0 (bs ++ later)) (bytes_on results (got.Frame bytes ∷ []))
-    ∙ ap (frames_at 0) (append_assoc (bytes_of results) (bytes ∷ []) later)
+    ∙ ap (frames_at 0) (append_assoc (frame_bytes results) (bytes ∷ []) later)
     ∙ read (bytes ∷ later)
     ∙ ap (λ r. with_front frames (r >>= λ found. with_first found.0 (frames_at found.1 later))) one
     ∙ sym (front_end frames f (frames_at value_after later))
@@ -115,7 +115,7 @@ read_on results frames f bytes value value_after read one later =
 pub record Received (old new : Session) (turns : List SessionTurn) (results : List Got) (result : Got) (f : Option FrameParts) (given : Taken) : Type 0 where
   pub taken : are_frames (results ++ result ∷ []) ≡ true
   pub kinds : framed_by (results ++ result ∷ []) ≡ framed turns ++ is_frame f ∷ []
-  pub read : (later : List (List ℕ)) → frames_at 0 (bytes_of (results ++ result ∷ []) ++ later) ≡ with_front (frames_of turns ++ frame_in f) (frames_at new.mux.received.value later)
+  pub read : (later : List (List ℕ)) → frames_at 0 (frame_bytes (results ++ result ∷ []) ++ later) ≡ with_front (turn_frames turns ++ frame_in f) (frames_at new.mux.received.value later)
   pub joined : IsJoined f given (events_of turns)
   pub inbox : StandsFor (inbox_after old.mux.inbox f) (came_after f (events_of turns))
 
@@ -124,7 +124,7 @@ pub received_on : Came → Joins → (setup : Setup) (start now : Moment) (old n
 received_on came_law joins setup start now old new turns frames results sent (got.Frame bytes) (Some f) given held (read, answer) = record {
   taken = frames_on results (got.Frame bytes ∷ []) held.taken refl;
   kinds = kinds_on results (got.Frame bytes ∷ []) ∙ ap (λ bs. bs ++ true ∷ []) held.kinds;
-  read = read_on results (frames_of turns) f bytes old.mux.received.value new.mux.received.value held.read read;
+  read = read_on results (turn_frames turns) f bytes old.mux.received.value new.mux.received.value held.read read;
   joined = sym (joins old.mux.inbox (events_of turns) f held.inbox) ∙ answer;
   inbox = came_law old.mux.inbox (events_of turns) f held.inbox;
 }
@@ -132,9 +132,9 @@ received_on came_law joins setup start now old new turns frames results sent (go
 received_on came_law joins setup start now old new turns frames results sent got.Idle None given held (same, none) = record {
   taken = frames_on results (got.Idle ∷ []) held.taken refl;
   kinds = kinds_on results (got.Idle ∷ []) ∙ ap (λ bs. bs ++ false ∷ []) held.kinds;
-  read = λ later. ap (λ bs. frames_at 0 (bs ++ later)) (bytes_on results (got.Idle ∷ []) ∙ append-nil (bytes_of results)) ∙ held.read later
-      ∙ ap (λ fs. with_front fs (frames_at old.mux.received.value later)) (sym (append-nil (frames_of turns)))
-      ∙ ap (λ c. with_front (frames_of turns ++ []) (frames_at c.value later)) (sym same);
+  read = λ later. ap (λ bs. frames_at 0 (bs ++ later)) (bytes_on results (got.Idle ∷ []) ∙ append-nil (frame_bytes results)) ∙ held.read later
+      ∙ ap (λ fs. with_front fs (frames_at old.mux.received.value later)) (sym (append-nil (turn_frames turns)))
+      ∙ ap (λ c. with_front (turn_frames turns ++ []) (frames_at c.value later)) (sym same);
   joined = none;
   inbox = held.inbox;
 }
@@ -151,35 +151,35 @@ pub written_more : (sent : List ℕ) (texts more : List (List ℕ)) (frames othe
 written_more sent [] more [] others a b = b
 written_more sent [] more (f ∷ frames) others a b = absurd a
 written_more sent (text ∷ texts) more [] others a b = absurd a
-written_more sent (text ∷ texts) more (f ∷ frames) others (first, a) b = (first, written_more (frame.sent_after sent f) texts more frames others a b)
+written_more sent (text ∷ texts) more (f ∷ frames) others (first, a) b = (first, written_more (frame.payload_sent_after sent f) texts more frames others a b)
 
 sent_more : (sent : List ℕ) (frames others : List FrameParts) → all_sent sent (frames ++ others) ≡ all_sent (all_sent sent frames) others
 sent_more sent [] others = refl
-sent_more sent (f ∷ frames) others = sent_more (frame.sent_after sent f) frames others
+sent_more sent (f ∷ frames) others = sent_more (frame.payload_sent_after sent f) frames others
 
 -- ---- steps after steps
 
-pub looks_after : (steps earlier : List Step) → looks_of (steps ++ earlier) ≡ looks_of earlier ++ looks_of steps
+pub looks_after : (steps earlier : List SessionStep) → looks_of (steps ++ earlier) ≡ looks_of earlier ++ looks_of steps
 looks_after [] earlier = sym (append-nil (looks_of earlier))
 looks_after (s ∷ steps) earlier = ap (λ l. l ++ look_of s.event) (looks_after steps earlier) ∙ append_assoc (looks_of earlier) (looks_of steps) (look_of s.event)
 
-pub stored_after : (steps earlier : List Step) → stored_of (steps ++ earlier) ≡ stored_of earlier ++ stored_of steps
+pub stored_after : (steps earlier : List SessionStep) → stored_of (steps ++ earlier) ≡ stored_of earlier ++ stored_of steps
 stored_after [] earlier = sym (append-nil (stored_of earlier))
 stored_after (s ∷ steps) earlier = ap (λ l. l ++ stored_by s.event) (stored_after steps earlier) ∙ append_assoc (stored_of earlier) (stored_of steps) (stored_by s.event)
 
-pub spent_after : (steps earlier : List Step) → spent_of (steps ++ earlier) ≡ spent_of earlier + spent_of steps
+pub spent_after : (steps earlier : List SessionStep) → spent_of (steps ++ earlier) ≡ spent_of earlier + spent_of steps
 spent_after [] earlier = omega arith
 spent_after (s ∷ steps) earlier = omega (arith, spent_after steps earlier)
 
-still_wanted : (steps earlier : List Step) → wanted_after earlier ≡ None → wanted_after (steps ++ earlier) ≡ wanted_after steps
+still_wanted : (steps earlier : List SessionStep) → wanted_after earlier ≡ None → wanted_after (steps ++ earlier) ≡ wanted_after steps
 still_wanted [] earlier none = none
 still_wanted (s ∷ steps) earlier none = refl
 
-pub answered_after : (start between now : Moment) (user : List ℕ) (program : Program) (strict : Bool) (steps earlier : List Step) → wanted_after earlier ≡ None
+pub answered_after : (start between now : Moment) (user : List ℕ) (program : Program) (strict : Bool) (steps earlier : List SessionStep) → wanted_after earlier ≡ None
     → AreAnswered start user program strict earlier between → AreAnswered between user program strict steps now → AreAnswered start user program strict (steps ++ earlier) now
 answered_after start between now user program strict [] earlier none a b = subst (AreAnswered start user program strict earlier) (sym b) a
 answered_after start between now user program strict (s ∷ steps) earlier none a (middle, b, one) =
-    (middle, answered_after start between middle user program strict steps earlier none a b, subst (λ w. IsAnswered middle user program strict w s.event now) (sym (still_wanted steps earlier none)) one)
+    (middle, answered_after start between middle user program strict steps earlier none a b, subst (λ w. IsEventAnswered middle user program strict w s.event now) (sym (still_wanted steps earlier none)) one)
 
 -- ---- where nothing is awaited
 
@@ -191,15 +191,15 @@ none_wanted feed pending.More want e w = cc
 none_wanted feed (pending.Bodies rows) want e w = cc
 none_wanted feed (pending.Reply asker to) want e w = cc
 
-step_wants : Wants → (m : Machine) (s : Step) (after : Machine) → Steps m s after → after.pending ≡ pending.Nothing → s.want ≡ None
+step_wants : Wants → (m : Machine) (s : SessionStep) (after : Machine) → Steps m s after → after.pending ≡ pending.Nothing → s.want ≡ None
 step_wants law m s after made rest =
     made.want ∙ none_wanted made.done.after.feed made.done.after.pending made.done.want (ap (λ (m : Machine). m.pending) (sym made.leads) ∙ rest) (law m s.event made.done made.awaited made.does)
 
-pub nothing_wanted : Wants → (m : Machine) (steps earlier : List Step) (after : Machine) → Leads m steps after → after.pending ≡ pending.Nothing → wanted_after earlier ≡ None → wanted_after (steps ++ earlier) ≡ None
+pub nothing_wanted : Wants → (m : Machine) (steps earlier : List SessionStep) (after : Machine) → Leads m steps after → after.pending ≡ pending.Nothing → wanted_after earlier ≡ None → wanted_after (steps ++ earlier) ≡ None
 nothing_wanted law m [] earlier after leads rest none = none
 nothing_wanted law m (s ∷ steps) earlier after (before, leads, made) rest none = step_wants law before s after made rest
 
-pub users_stay : Kept → (m : Machine) (steps : List Step) (after : Machine) → Leads m steps after → (after.user ≡ m.user) × (after.strict ≡ m.strict)
+pub users_stay : Kept → (m : Machine) (steps : List SessionStep) (after : Machine) → Leads m steps after → (after.user ≡ m.user) × (after.strict ≡ m.strict)
 users_stay law m [] after leads = (ap (λ (m : Machine). m.user) leads, ap (λ (m : Machine). m.strict) leads)
 users_stay law m (s ∷ steps) after (before, leads, made) =
     let kept = law before s.event made.done made.awaited made.does in
@@ -212,11 +212,11 @@ counted_frames : (f : Option FrameParts) → length (frame_in f) ≡ counted f
 counted_frames None = refl
 counted_frames (Some f) = refl
 
-counted_on : (old new : Session) (turns : List SessionTurn) (t : SessionTurn) → new.frames ≡ old.frames + counted t.frame → old.frames ≡ length (frames_of turns) → new.frames ≡ length (frames_of (t ∷ turns))
-counted_on old new turns t more count = omega (arith, more, count, counted_frames t.frame, length-append (frames_of turns) (frame_in t.frame))
+counted_on : (old new : Session) (turns : List SessionTurn) (t : SessionTurn) → new.frames ≡ old.frames + counted t.frame → old.frames ≡ length (turn_frames turns) → new.frames ≡ length (turn_frames (t ∷ turns))
+counted_on old new turns t more count = omega (arith, more, count, counted_frames t.frame, length-append (turn_frames turns) (frame_in t.frame))
 
 -- a turn's steps were answered after all before it
-pub turn_answered : (setup : Setup) (start now final : Moment) (old : Session) (turns : List SessionTurn) (steps : List Step) (frames : List FrameParts) (results : List Got) (sent : List (List ℕ))
+pub turn_answered : (setup : Setup) (start now final : Moment) (old : Session) (turns : List SessionTurn) (steps : List SessionStep) (frames : List FrameParts) (results : List Got) (sent : List (List ℕ))
     → Holds setup start now old turns frames results sent → AreAnswered now old.core.user (arc_value setup.program) old.core.strict steps final
     → AreAnswered start setup.user (arc_value setup.program) setup.strict (steps ++ steps_of turns) final
 turn_answered setup start now final old turns steps frames results sent held a =

@@ -12,16 +12,16 @@ use Rattle.checkpoint_store.specs.declared.answers.Kept0.TheVariants as kept0
 use Rattle.checkpoint_store.specs.declared.answers.SetAnswer.{SetAnswer}
 use Rattle.checkpoint_store.specs.declared.answers.SetAnswer.TheVariants as set
 use Rattle.checkpoint_store.specs.Answers.{kept_of, kept_at, is_full, Sets}
-use Rattle.checkpoint_store.specs.Checkpoints.{pair_text}
-use Rattle.checkpoint_store.specs.SideMaps.{number_at, IsPut}
+use Rattle.checkpoint_store.specs.Checkpoints.{checkpoint_text}
+use Rattle.checkpoint_store.specs.SideMaps.{side_number, IsPut}
 use Rattle.sync_syntax.specs.declared.tree.Program.{Program}
 use Rattle.session_core.specs.declared.act.Want.{Want}
 use Rattle.session_core.specs.declared.act.Want.TheVariants as want
 use Rattle.session_core.specs.declared.event.Event.{Event}
 use Rattle.session_core.specs.declared.event.Event.TheVariants as event
-use Rattle.session_core.specs.Steps.{Step, wanted_after}
+use Rattle.session_core.specs.Steps.{SessionStep, wanted_after}
 use Rattle.write_path.specs.Reads.{Reads, WasRead, IsOneOf}
-use Rattle.session_run.specs.Answered.{Moment, IsAnswered, AreAnswered}
+use Rattle.session_run.specs.Answered.{Moment, IsEventAnswered, AreAnswered}
 use Rattle.session_run.specs.Served.{IsSession}
 use Rattle.session_run.specs.Turns.{undone, steps_of}
 use Rattle.session_run.specs.declared.ended.Ended.{Ended}
@@ -47,7 +47,7 @@ follows_by a b text (Some value) e f =
 -- a number does not fall
 number_follows : (a b : List SideEntry) (user client : List ℕ) → SideFollows a b → number_in a user client ≤ number_in b user client
 number_follows a b user client f =
-    let text : List ℕ = pair_text user client in
+    let text : List ℕ = checkpoint_text user client in
     subst (λ n. n ≤ number_in b user client) (sym (number_is (side_at a text)))
     (subst (λ n. number_of (side_at a text) ≤ n) (sym (number_is (side_at b text))) (follows_by a b text (side_at a text) refl f))
 
@@ -91,7 +91,7 @@ ReadAfter = (before after : List BoardState) (low high : ℕ) (b : BoardState) �
 
 -- what the law of checkpoints says of one that is put
 abbrev pub IsPutThere : Type 0
-IsPutThere = (before after : List SideEntry) (user client : List ℕ) (value : SideValue) → IsPut before (pair_text user client) value after → side_at after (pair_text user client) ≡ Some value
+IsPutThere = (before after : List SideEntry) (user client : List ℕ) (value : SideValue) → IsPut before (checkpoint_text user client) value after → side_at after (checkpoint_text user client) ≡ Some value
 
 -- what holds of the numbers that were named by a moment
 abbrev pub NamedWithin : List ℕ → Moment → List ClientNumber → Type 0
@@ -123,14 +123,14 @@ kept_is : (o : Option SideValue) → kept_number (kept_of o) ≡ number_of o
 kept_is None = refl
 kept_is (Some value) = refl
 
-got_number : (side : List SideEntry) (user client : List ℕ) (answer : Kept0) → answer ≡ kept_at side (pair_text user client) → number_in side user client ≡ kept_number answer
+got_number : (side : List SideEntry) (user client : List ℕ) (answer : Kept0) → answer ≡ kept_at side (checkpoint_text user client) → number_in side user client ≡ kept_number answer
 got_number side user client answer is =
-    let o : Option SideValue = side_at side (pair_text user client) in
+    let o : Option SideValue = side_at side (checkpoint_text user client) in
     number_is o ∙ sym (kept_is o) ∙ ap kept_number (sym is)
 
-put_number : IsPutThere → (before after : List SideEntry) (user client : List ℕ) (value : SideValue) → IsPut before (pair_text user client) value after → number_in after user client ≡ value.number
+put_number : IsPutThere → (before after : List SideEntry) (user client : List ℕ) (value : SideValue) → IsPut before (checkpoint_text user client) value after → number_in after user client ≡ value.number
 put_number law before after user client value put =
-    number_is (side_at after (pair_text user client)) ∙ ap number_of (law before after user client value put)
+    number_is (side_at after (checkpoint_text user client)) ∙ ap number_of (law before after user client value put)
 
 abbrev is_conflict : SetAnswer → Bool
 is_conflict (set.Conflict409 current) = true
@@ -156,13 +156,13 @@ conflict_by false false full bytes next kept current e = ap conflict_of e
 no_memory : (current : ℕ) → set.Conflict409 current ≢ set.Memory
 no_memory current e = false≢true (sym (ap is_conflict e))
 
-conflict_number : (before after : List SideEntry) (user client : List ℕ) (rev : ℕ) (body : List ℕ) (current : ℕ) → Sets before (pair_text user client) rev body (set.Conflict409 current) after → number_in before user client ≡ current
+conflict_number : (before after : List SideEntry) (user client : List ℕ) (rev : ℕ) (body : List ℕ) (current : ℕ) → Sets before (checkpoint_text user client) rev body (set.Conflict409 current) after → number_in before user client ≡ current
 conflict_number before after user client rev body current sets =
-    sym (conflict_by (nat_lt 4096 (length body)) (nat_eq rev (number_in before user client)) (is_full (number_at before (pair_text user client)) (length before)) (length body)
+    sym (conflict_by (nat_lt 4096 (length body)) (nat_eq rev (number_in before user client)) (is_full (side_number before (checkpoint_text user client)) (length before)) (length body)
     (number_in before user client + 1) (number_in before user client) current (sets.answer (no_memory current)))
 
 one_named_event : ReadAfter → IsPutThere → (before after : Moment) (user : List ℕ) (program : Program) (strict : Bool) (wanted : Option Want) (e : Event) (earlier : List ClientNumber)
-    → IsAnswered before user program strict wanted e after → Named user before earlier → Named user after (named_by wanted e ++ earlier)
+    → IsEventAnswered before user program strict wanted e after → Named user before earlier → Named user after (named_by wanted e ++ earlier)
 one_named_event law put before after user program strict None (event.Whole message) earlier a named = subst (λ (m : Moment). Named user m earlier) (sym a) named
 one_named_event law put before after user program strict None (event.Idle front) earlier a named = (named.0, (λ x all. named.1 x (subst (λ bs. IsAfterAll bs x) a.read all)))
 one_named_event law put before after user program strict None (event.Fed answer) earlier a named = absurd a
@@ -231,7 +231,7 @@ one_named_event law put before after user program strict (Some (want.SetCheckpoi
 one_named_event law put before after user program strict (Some (want.SetCheckpoint client rev body)) (event.Set set.Full503) earlier a named = same_named before after user earlier a.reads named
 one_named_event law put before after user program strict (Some (want.SetCheckpoint client rev body)) (event.Set set.Memory) earlier a named = same_named before after user earlier a.reads named
 
-pub all_named : ReadAfter → IsPutThere → (start now : Moment) (user : List ℕ) (program : Program) (strict : Bool) (steps : List Step) → AreAnswered start user program strict steps now → Named user now (named_of steps)
+pub all_named : ReadAfter → IsPutThere → (start now : Moment) (user : List ℕ) (program : Program) (strict : Bool) (steps : List SessionStep) → AreAnswered start user program strict steps now → Named user now (named_of steps)
 all_named law put start now user program strict [] a = (tt, (λ x all. tt))
 all_named law put start now user program strict (s ∷ earlier) (between, a, one) =
     one_named_event law put between now user program strict (wanted_after earlier) s.event (named_of earlier) one (all_named law put start between user program strict earlier a)

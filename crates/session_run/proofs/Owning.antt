@@ -48,14 +48,14 @@ use Rattle.session_core.specs.declared.replies.Awaited.{Awaited}
 use Rattle.session_core.specs.declared.machine.Subscription.{Subscription}
 use Rattle.session_core.specs.declared.machine.Pending.{Pending}
 use Rattle.session_core.specs.declared.machine.Pending.TheVariants as pending
-use Rattle.session_core.specs.Acts.{messages_from, request_message, reply_act, refusal_by, acceptance_act, answer_act, body_act, body_acts, chosen, offer_act}
+use Rattle.session_core.specs.Acts.{messages_from, act_request, reply_act, refusal_by, acceptance_act, answer_act, body_act, body_acts, flagged_rows, offer_act}
 use Rattle.session_core.proofs.Replying.{answer_by}
 use Rattle.session_core.specs.Conduct.{WantsFor, AreOnOffer}
 use Rattle.session_core.specs.Right.{IsRight, AreRight}
 use Rattle.session_core.specs.Running.{Running, rest, is_none, is_silent, next_acts}
 use Rattle.session_core.specs.State.{Machine, new_machine, AwaitsBy}
-use Rattle.session_core.specs.Steps.{Step, Steps, Leads, wanted_after}
-use Rattle.session_core.specs.Transitions.{Done, puts, looks_again, answered_by, on_sub_changes, on_changes, on_request, answers, wanted_of, on_wanted, on_reply, first_of, on_next_look, on_fed, on_bodies_of, on_bodies, on_answer, on_idle, Does, DoesByMessage}
+use Rattle.session_core.specs.Steps.{SessionStep, Steps, Leads, wanted_after}
+use Rattle.session_core.specs.Transitions.{Done, puts, looks_again, answered_by, on_sub_changes, on_changes, on_request, answers, wanted_of, on_wanted, on_reply, first_running, on_next_look, on_fed, on_bodies_of, on_bodies, on_answer, on_idle, DoesForEvent, DoesByMessage}
 use Rattle.session_run.specs.Own.{IsAmong, IsShown, AreOwn, CarryNone, OwnAt, HasOwnBodies}
 use Rattle.session_run.proofs.Taking.{Wants}
 
@@ -151,7 +151,7 @@ more_none m (Some r) (fed.Rows front rows) = offer_none m.version (record r { ro
 fed_none : (m : Machine) (answer : Fed) (awaited : Pending) → ActsCarryNone (on_fed m answer awaited).acts
 fed_none m (fed.Future front) (pending.Feed asked) = reply_none _ kinds.Err _ refl
 fed_none m (fed.Rows front rows) (pending.Feed asked) =
-    both_none (acceptance_act asked.asker) (next_acts m.version (first_of asked rows front)) (reply_none asked.asker kinds.Rpy ok_payload refl) (offer_none m.version (first_of asked rows front))
+    both_none (acceptance_act asked.asker) (next_acts m.version (first_running asked rows front)) (reply_none asked.asker kinds.Rpy ok_payload refl) (offer_none m.version (first_running asked rows front))
 fed_none m answer pending.More = more_none m m.feed answer
 fed_none m answer pending.Nothing = tt
 fed_none m answer (pending.Bodies rows) = tt
@@ -187,7 +187,7 @@ shown_with : (es : List Entry) (trees : List ℕ → List Node) (user : List ℕ
     → IsAmong row (take r.batch r.rows)
     → view es user r.options.filter row.doc ≡ Some (said_by row)
     → ((w : Write) × (winning_write es row.doc ≡ Some w) × (w.doc ≡ row.doc) × (w.rev ≡ row.rev) × (ancestors ≡ ancestors_of (trees row.doc) w.rev most) × (bytes ≡ w.body))
-    → IsShown es trees user r (request_message number false (rev_payload row ancestors bytes))
+    → IsShown es trees user r (act_request number false (rev_payload row ancestors bytes))
 shown_with es trees user r most number row ancestors bytes on_offer shown (w, winner, doc, rev, ancestors_are, bytes_are) = record {
   row = row;
   on_offer = on_offer;
@@ -230,11 +230,11 @@ among_more : (row first : Row) (some rows : List Row) → AllAmong some rows →
 among_more row first [] rows all = tt
 among_more row first (one ∷ some) rows (is, all) = (inr is, among_more row first some rows all)
 
-chosen_among : (rows : List Row) (flags : List Bool) → AllAmong (chosen rows flags) rows
+chosen_among : (rows : List Row) (flags : List Bool) → AllAmong (flagged_rows rows flags) rows
 chosen_among [] flags = tt
 chosen_among (row ∷ rows) [] = tt
-chosen_among (row ∷ rows) (true ∷ flags) = (inl refl, among_more row row (chosen rows flags) rows (chosen_among rows flags))
-chosen_among (row ∷ rows) (false ∷ flags) = among_more row row (chosen rows flags) rows (chosen_among rows flags)
+chosen_among (row ∷ rows) (true ∷ flags) = (inl refl, among_more row row (flagged_rows rows flags) rows (chosen_among rows flags))
+chosen_among (row ∷ rows) (false ∷ flags) = among_more row row (flagged_rows rows flags) rows (chosen_among rows flags)
 
 -- ---- a step by bodies
 
@@ -250,7 +250,7 @@ by_answers shows wins removes es trees user m r rows given most number false are
     (bodies_own shows wins removes es trees user r most number rows (next_acts m.version (rest r)) all (offer_none m.version (rest r)))
 
 -- what is put by bodies of rows that are on offer
-bodies_put : Shows → Wins → Removes → (h : List Entry) (user : List ℕ) (before : Machine) (s : Step) (after : Machine) (b : Bodies) (r : Running) (rows : List Row) (options : Options) (most : ℕ)
+bodies_put : Shows → Wins → Removes → (h : List Entry) (user : List ℕ) (before : Machine) (s : SessionStep) (after : Machine) (b : Bodies) (r : Running) (rows : List Row) (options : Options) (most : ℕ)
     → before.feed ≡ Some r → s.event ≡ event.Bodies b → (made : Steps before s after)
     → made.done ≡ on_bodies_of before b rows (Some r) → AreOnOffer (Some r) options rows → AreBodies h user options rows most b
     → OwnAt h user before s
@@ -271,7 +271,7 @@ bodies_put shows wins removes h user before s after b r rows options most runs c
           (by_answers shows wins removes es trees user before r rows b.answers most (before.requests + 1) (r.continuous && is_none (rest r).rows) answers_are all);
     }
 
-by_right : Shows → Wins → Removes → (h : List Entry) (user : List ℕ) (program : Program) (strict : Bool) (before : Machine) (s : Step) (after : Machine) (b : Bodies) (rows : List Row) (feed : Option Running) (wanted : Option Want)
+by_right : Shows → Wins → Removes → (h : List Entry) (user : List ℕ) (program : Program) (strict : Bool) (before : Machine) (s : SessionStep) (after : Machine) (b : Bodies) (rows : List Row) (feed : Option Running) (wanted : Option Want)
     → before.feed ≡ feed → s.event ≡ event.Bodies b → (made : Steps before s after)
     → made.done ≡ on_bodies_of before b rows feed → WantsFor feed (pending.Bodies rows) wanted → IsRight h user program strict wanted (event.Bodies b)
     → HasOwnBodies h user before s
@@ -286,7 +286,7 @@ by_right shows wins removes h user program strict before s after b rows (Some r)
 by_right shows wins removes h user program strict before s after b rows (Some r) (Some (want.GetCheckpoint client)) runs came made does w right = absurd w
 by_right shows wins removes h user program strict before s after b rows (Some r) (Some (want.SetCheckpoint client rev body)) runs came made does w right = absurd w
 
-by_bodies : Shows → Wins → Removes → (h : List Entry) (user : List ℕ) (program : Program) (strict : Bool) (before : Machine) (s : Step) (after : Machine) (b : Bodies) (awaited : Pending) (wanted : Option Want)
+by_bodies : Shows → Wins → Removes → (h : List Entry) (user : List ℕ) (program : Program) (strict : Bool) (before : Machine) (s : SessionStep) (after : Machine) (b : Bodies) (awaited : Pending) (wanted : Option Want)
     → s.event ≡ event.Bodies b → (made : Steps before s after)
     → AwaitsBy before.feed awaited (event.Bodies b) → made.done ≡ on_bodies before b awaited → WantsFor before.feed awaited wanted → IsRight h user program strict wanted (event.Bodies b)
     → HasOwnBodies h user before s
@@ -299,11 +299,11 @@ by_bodies shows wins removes h user program strict before s after b (pending.Rep
 
 -- ---- each step
 
-none_put : (h : List Entry) (user : List ℕ) (before : Machine) (s : Step) (after : Machine) → (made : Steps before s after) → ActsCarryNone made.done.acts → HasOwnBodies h user before s
+none_put : (h : List Entry) (user : List ℕ) (before : Machine) (s : SessionStep) (after : Machine) → (made : Steps before s after) → ActsCarryNone made.done.acts → HasOwnBodies h user before s
 none_put h user before s after made none = inl (subst CarryNone (sym made.puts) (carry_none (before.requests + 1) made.done.acts none))
 
-by_event : Shows → Wins → Removes → (h : List Entry) (user : List ℕ) (program : Program) (strict : Bool) (before : Machine) (s : Step) (after : Machine) (x : Event) (wanted : Option Want)
-    → s.event ≡ x → (made : Steps before s after) → AwaitsBy before.feed before.pending x → Does before x made.done → WantsFor before.feed before.pending wanted → IsRight h user program strict wanted x
+by_event : Shows → Wins → Removes → (h : List Entry) (user : List ℕ) (program : Program) (strict : Bool) (before : Machine) (s : SessionStep) (after : Machine) (x : Event) (wanted : Option Want)
+    → s.event ≡ x → (made : Steps before s after) → AwaitsBy before.feed before.pending x → DoesForEvent before x made.done → WantsFor before.feed before.pending wanted → IsRight h user program strict wanted x
     → HasOwnBodies h user before s
 by_event shows wins removes h user program strict before s after (event.Whole message) wanted came made a does w right = none_put h user before s after made (message_none before message (is_request message.kind) made.done does)
 by_event shows wins removes h user program strict before s after (event.Idle front) wanted came made a does w right =
@@ -321,13 +321,13 @@ by_event shows wins removes h user program strict before s after (event.Got k) w
 by_event shows wins removes h user program strict before s after (event.Set answer) wanted came made a does w right =
     none_put h user before s after made (subst (λ (d : Done). ActsCarryNone d.acts) (sym does) (answered_to_none before (event.Set answer) before.pending))
 
-wants_at : Wants → (user : List ℕ) (version : Version) (strict : Bool) (steps : List Step) (m : Machine) → Leads (new_machine user version strict) steps m → WantsFor m.feed m.pending (wanted_after steps)
+wants_at : Wants → (user : List ℕ) (version : Version) (strict : Bool) (steps : List SessionStep) (m : Machine) → Leads (new_machine user version strict) steps m → WantsFor m.feed m.pending (wanted_after steps)
 wants_at law user version strict [] m leads = subst (λ (m : Machine). WantsFor m.feed m.pending None) (sym leads) tt
 wants_at law user version strict (s ∷ steps) m (before, leads, made) =
     subst (λ (m : Machine). WantsFor m.feed m.pending s.want) (sym made.leads)
     (subst (WantsFor made.done.after.feed made.done.after.pending) (sym made.want) (law before s.event made.done made.awaited made.does))
 
-pub own_bodies : Wants → Shows → Wins → Removes → (h : List Entry) (user : List ℕ) (version : Version) (program : Program) (strict : Bool) (earlier : List Step) (before : Machine) (s : Step) (after : Machine)
+pub own_bodies : Wants → Shows → Wins → Removes → (h : List Entry) (user : List ℕ) (version : Version) (program : Program) (strict : Bool) (earlier : List SessionStep) (before : Machine) (s : SessionStep) (after : Machine)
     → Leads (new_machine user version strict) earlier before → Steps before s after → AreRight h user program strict (s ∷ earlier) → HasOwnBodies h user before s
 own_bodies law shows wins removes h user version program strict earlier before s after leads made right =
     by_event shows wins removes h user program strict before s after s.event (wanted_after earlier) refl made made.awaited made.does (wants_at law user version strict earlier before leads) right.0

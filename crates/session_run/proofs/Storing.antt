@@ -7,15 +7,15 @@ use Rattle.sg_history.specs.Board.{BoardState, SideEntry}
 use Rattle.checkpoint_store.specs.declared.answers.Kept0.{Kept0}
 use Rattle.checkpoint_store.specs.declared.answers.SetAnswer.{SetAnswer}
 use Rattle.checkpoint_store.specs.Answers.{kept_at, Sets}
-use Rattle.checkpoint_store.specs.Checkpoints.{pair_text}
+use Rattle.checkpoint_store.specs.Checkpoints.{checkpoint_text}
 use Rattle.sync_syntax.specs.declared.tree.Program.{Program}
 use Rattle.session_core.specs.declared.act.Want.{Want}
 use Rattle.session_core.specs.declared.act.Want.TheVariants as want
 use Rattle.session_core.specs.declared.event.Event.{Event}
 use Rattle.session_core.specs.declared.event.Event.TheVariants as event
-use Rattle.session_core.specs.Steps.{Step, wanted_after}
+use Rattle.session_core.specs.Steps.{SessionStep, wanted_after}
 use Rattle.write_path.specs.Checkpoints.{HasCheckpoints, checkpoints_after}
-use Rattle.session_run.specs.Answered.{Moment, SawCheckpoint, IsSet, IsAnswered, AreAnswered, IsOfStore, AreOfStore}
+use Rattle.session_run.specs.Answered.{Moment, SawCheckpoint, IsSet, IsEventAnswered, AreAnswered, IsOfStore, AreOfStore}
 use Rattle.session_run.specs.Served.{IsSession}
 use Rattle.session_run.specs.Turns.{undone, steps_of}
 use Rattle.session_run.specs.declared.ended.Ended.{Ended}
@@ -32,18 +32,18 @@ of_board recorded side b is has = subst (λ r. HasCheckpoints r b) is has
 got_stored : (before after : Moment) (user client : List ℕ) (side : List SideEntry) (answer : Kept0) → before.checkpoints ≡ Some side → after.checkpoints ≡ before.checkpoints
     → SawCheckpoint before after user client answer → StoredThen user side (Some (want.GetCheckpoint client)) (event.Got answer) after
 got_stored before after user client side answer is same (b, was, has, answered) =
-    (side, same ∙ is, (answered ∙ ap (λ s. kept_at s (pair_text user client)) (of_board before.checkpoints side b is has), refl))
+    (side, same ∙ is, (answered ∙ ap (λ s. kept_at s (checkpoint_text user client)) (of_board before.checkpoints side b is has), refl))
 
 set_stored : (before after : Moment) (user client : List ℕ) (rev : ℕ) (body : List ℕ) (side : List SideEntry) (answer : SetAnswer) → before.checkpoints ≡ Some side
     → IsSet before user client rev body answer after → StoredThen user side (Some (want.SetCheckpoint client rev body)) (event.Set answer) after
 set_stored before after user client rev body side answer is set = (
   set.sets.left.side,
   set.sets.recorded_is ∙ ap (λ r. checkpoints_after r set.sets.left.side) is,
-  subst (λ s. Sets s (pair_text user client) rev body answer set.sets.left.side) (of_board before.checkpoints side set.sets.found is set.sets.has_checkpoints) set.sets.sets,
+  subst (λ s. Sets s (checkpoint_text user client) rev body answer set.sets.left.side) (of_board before.checkpoints side set.sets.found is set.sets.has_checkpoints) set.sets.sets,
 )
 
 one_stored : (before after : Moment) (user : List ℕ) (program : Program) (strict : Bool) (side : List SideEntry) (wanted : Option Want) (e : Event) → before.checkpoints ≡ Some side
-    → IsAnswered before user program strict wanted e after → StoredThen user side wanted e after
+    → IsEventAnswered before user program strict wanted e after → StoredThen user side wanted e after
 one_stored before after user program strict side None (event.Whole message) is a = (side, ap (λ (m : Moment). m.checkpoints) a ∙ is, refl)
 one_stored before after user program strict side None (event.Idle front) is a = (side, a.checkpoints ∙ is, refl)
 one_stored before after user program strict side None (event.Fed answer) is a = absurd a
@@ -101,7 +101,7 @@ one_stored before after user program strict side (Some (want.SetCheckpoint clien
 one_stored before after user program strict side (Some (want.SetCheckpoint client rev body)) (event.Got answer) is a = absurd a
 one_stored before after user program strict side (Some (want.SetCheckpoint client rev body)) (event.Set answer) is a = set_stored before after user client rev body side answer is a
 
-pub all_stored : (start now : Moment) (user : List ℕ) (program : Program) (strict : Bool) (side : List SideEntry) (steps : List Step) → AreAnswered start user program strict steps now → start.checkpoints ≡ Some side
+pub all_stored : (start now : Moment) (user : List ℕ) (program : Program) (strict : Bool) (side : List SideEntry) (steps : List SessionStep) → AreAnswered start user program strict steps now → start.checkpoints ≡ Some side
     → (left : List SideEntry) × (now.checkpoints ≡ Some left) × AreOfStore user side steps left
 all_stored start now user program strict side [] a is = (side, ap (λ (m : Moment). m.checkpoints) a ∙ is, refl)
 all_stored start now user program strict side (s ∷ earlier) (between, a, one) is =

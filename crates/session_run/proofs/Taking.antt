@@ -7,8 +7,8 @@ use Rattle.session_core.specs.Acts.{messages_from}
 use Rattle.session_core.specs.Conduct.{AreAnswers, due_at, WantsFor, IsKept, requests_among, feed_front, AreWithin}
 use Rattle.session_core.specs.Fronts.{front_by}
 use Rattle.session_core.specs.State.{Machine, Awaits, most_puts, most_requests}
-use Rattle.session_core.specs.Steps.{Step, Steps}
-use Rattle.session_core.specs.Transitions.{Done, Does, IsDoneBy}
+use Rattle.session_core.specs.Steps.{SessionStep, Steps}
+use Rattle.session_core.specs.Transitions.{Done, DoesForEvent, IsDoneBy}
 use Rattle.session_mux.specs.declared.mux.Mux.{Mux}
 use Rattle.blip_mux.specs.Apart.{AreApart}
 use Rattle.session_run.specs.declared.session.Session.{Session}
@@ -18,17 +18,17 @@ use Rattle.session_run.proofs.ActsPut.{PutsApart, acts_put, acts_counted, answer
 
 -- what the laws of a session say
 abbrev pub Puts : Type 0
-Puts = (m : Machine) (event : Event) (done : Done) → Awaits m event → Does m event done → AreAnswers (due_at m.pending event) done.acts
+Puts = (m : Machine) (event : Event) (done : Done) → Awaits m event → DoesForEvent m event done → AreAnswers (due_at m.pending event) done.acts
 
 abbrev pub Wants : Type 0
-Wants = (m : Machine) (event : Event) (done : Done) → Awaits m event → Does m event done → WantsFor done.after.feed done.after.pending done.want
+Wants = (m : Machine) (event : Event) (done : Done) → Awaits m event → DoesForEvent m event done → WantsFor done.after.feed done.after.pending done.want
 
 abbrev pub Kept : Type 0
-Kept = (m : Machine) (event : Event) (done : Done) → Awaits m event → Does m event done → IsKept m event done
+Kept = (m : Machine) (event : Event) (done : Done) → Awaits m event → DoesForEvent m event done → IsKept m event done
 
 -- what the machine's step answers
 abbrev pub Stepped : Machine → Event → Machine → Acts → Type 0
-Stepped old event new acts = IsDoneBy (λ (done : Done). Does old event done) new acts
+Stepped old event new acts = IsDoneBy (λ (done : Done). DoesForEvent old event done) new acts
 
 pub answers_of : Puts → (old new : Machine) (event : Event) (acts : Acts) → Awaits old event → Stepped old event new acts → AreAnswers (due_at old.pending event) acts.puts.items
 answers_of law old new event acts awaits (done, does, (after, puts, want)) = subst (AreAnswers (due_at old.pending event)) puts (law old event done awaits does)
@@ -40,7 +40,7 @@ counted_of law old new event acts awaits (done, does, (after, puts, want)) =
 -- the step
 abbrev StepOf : Machine → Event → Machine → Acts → Type 0
 StepOf old event new acts =
-    (s : Step) × Steps old s new × (s.event ≡ event) × (s.want ≡ acts.want) × (s.puts ≡ messages_from (old.requests + 1) acts.puts.items)
+    (s : SessionStep) × Steps old s new × (s.event ≡ event) × (s.want ≡ acts.want) × (s.puts ≡ messages_from (old.requests + 1) acts.puts.items)
 
 step_of : (old new : Machine) (event : Event) (acts : Acts) → Awaits old event → Stepped old event new acts → StepOf old event new acts
 step_of old new event acts awaits (done, does, (after, puts, want)) = (

@@ -26,15 +26,15 @@ use Rattle.session_core.specs.Conduct.{due_at, feed_front, WantsFor}
 use Rattle.session_core.specs.Fronts.{looks_of, stored_of}
 use Rattle.session_core.specs.Running.{waits}
 use Rattle.session_core.specs.State.{Machine, most_puts}
-use Rattle.session_core.specs.Steps.{Step, Leads, put_by}
+use Rattle.session_core.specs.Steps.{SessionStep, Leads, put_by}
 use Rattle.sync_syntax.specs.declared.tree.Program.{Program}
 use Rattle.session_mux.specs.declared.mux.Mux.{Mux}
-use Rattle.session_mux.specs.Muxed.{Gives, IsPart, acknowledged_by, HaveGone}
+use Rattle.session_mux.specs.Muxed.{GivesFrame, IsPartOfMessage, acknowledged_by, HaveGone}
 use Rattle.session_mux.specs.Sent.{AreWrittenFrom, Records, expecting_all}
 use Rattle.session_run.specs.declared.ended.End.{End}
 use Rattle.session_run.specs.declared.ended.End.TheVariants as end
 use Rattle.session_run.specs.declared.session.Session.{Session}
-use Rattle.session_run.specs.Answered.{Moment, HasRead, AreAnswered}
+use Rattle.session_run.specs.Answered.{Moment, HasReadGround, AreAnswered}
 use Rattle.session_run.specs.inner.Held.{IsReady, IsAtRest, IsCalled, Conversed, Conversing, Went, GoesOn, IsEndOf, Turned, Takes}
 use Rattle.session_run.specs.inner.Putting.{MayReply, put_as}
 use Rattle.session_run.specs.Spent.{spent_of, NeedsMore, IsMet}
@@ -43,7 +43,7 @@ use Rattle.session_run.proofs.Conversing.{at_rest, outbox_steps_on}
 use Rattle.session_run.proofs.ActsPut.{PicksApart, picked_apart, picked_requests}
 
 -- to read nothing
-pub read_nothing : (now : Moment) → HasRead now now
+pub read_nothing : (now : Moment) → HasReadGround now now
 read_nothing now = record { reads = record { added = []; read = refl; later = tt; lengths = tt; rises = le_refl now.lowest }; recorded = refl; checkpoints = refl; own = refl }
 
 -- ---- frames that go
@@ -52,8 +52,8 @@ none_written : (value : ℕ) → AreWrittenFrom value [] [] value
 none_written value sent e = (tt, e)
 
 -- what went is what may go after what was put
-abbrev went_with : (program : Program) (old middle new : Session) (first : Option Event) (before now final : Moment) (traffic traffic_after : Option Traffic) (steps : List Step) (halted : Option Event) (failed : List Gave)
-    → Leads old.core steps middle.core → IsCalled first (undone halted ++ steps) → AreAnswered before old.core.user program old.core.strict (undone halted ++ steps) now → HasRead now final
+abbrev went_with : (program : Program) (old middle new : Session) (first : Option Event) (before now final : Moment) (traffic traffic_after : Option Traffic) (steps : List SessionStep) (halted : Option Event) (failed : List Gave)
+    → Leads old.core steps middle.core → IsCalled first (undone halted ++ steps) → AreAnswered before old.core.user program old.core.strict (undone halted ++ steps) now → HasReadGround now final
     → middle.listing.looks ≡ old.listing.looks ++ looks_of (undone halted ++ steps) → middle.listing.stored ≡ old.listing.stored ++ stored_of (undone halted ++ steps)
     → middle.listing.spent ≡ old.listing.spent + spent_of (undone halted ++ steps)
     → new.core ≡ middle.core → new.listing ≡ middle.listing
@@ -91,12 +91,12 @@ rested law middle new frames left rest ready core inbox go idle left_is = record
 }
 
 -- no answer is awaited, or one more look is needed than a session takes
-abbrev Rests : Bool → Session → List Step → Type 0
+abbrev Rests : Bool → Session → List SessionStep → Type 0
 Rests true s steps = s.core.pending ≡ pending.Nothing
 Rests false s steps = NeedsMore s.listing.spent steps
 
 -- what a session has before it sends
-record Puts (program : Program) (old middle : Session) (first : Option Event) (before final : Moment) (met : Bool) (steps : List Step) : Type 0 where
+record Puts (program : Program) (old middle : Session) (first : Option Event) (before final : Moment) (met : Bool) (steps : List SessionStep) : Type 0 where
   pub leads : Leads old.core steps middle.core
   pub called : IsCalled first steps
   pub answered : AreAnswered before old.core.user program old.core.strict steps final
@@ -109,8 +109,8 @@ record Puts (program : Program) (old middle : Session) (first : Option Event) (b
   pub front : feed_front middle.core.feed ≤ final.lowest
   pub few : middle.core.requests ≤ old.core.requests + 3 * most_puts
 
-abbrev puts_went : (program : Program) (old middle new : Session) (first : Option Event) (before final : Moment) (traffic traffic_after : Option Traffic) (met : Bool) (steps : List Step) (failed : List Gave)
-    → Puts program old middle first before final met steps → HasRead final final → new.core ≡ middle.core → new.listing ≡ middle.listing → middle.mux.sent ≡ old.mux.sent
+abbrev puts_went : (program : Program) (old middle new : Session) (first : Option Event) (before final : Moment) (traffic traffic_after : Option Traffic) (met : Bool) (steps : List SessionStep) (failed : List Gave)
+    → Puts program old middle first before final met steps → HasReadGround final final → new.core ≡ middle.core → new.listing ≡ middle.listing → middle.mux.sent ≡ old.mux.sent
     → (frames : List FrameParts) (texts : List (List ℕ)) (left : Sending) (value : ℕ)
     → ArePicked middle.mux.outbox frames left → AreWrittenFrom middle.mux.sent.value frames texts value → Records traffic [] texts failed traffic_after
     → Went program old new first before final traffic traffic_after steps None left failed
@@ -118,13 +118,13 @@ puts_went program old middle new first before final traffic traffic_after met st
     went_with program old middle new first before final final traffic traffic_after steps None failed put.leads put.called put.answered read put.looks put.stored put.spent core listing
     middle.mux.outbox (ap (λ (m : Mux). m.outbox) put.mux) middle.mux.sent sent frames texts left value go written records
 
-still_rests : (met : Bool) (middle new : Session) (steps : List Step) → new.core ≡ middle.core → new.listing ≡ middle.listing → Rests met middle steps
+still_rests : (met : Bool) (middle new : Session) (steps : List SessionStep) → new.core ≡ middle.core → new.listing ≡ middle.listing → Rests met middle steps
     → (new.core.pending ≡ pending.Nothing) ⊎ NeedsMore new.listing.spent steps
 still_rests true middle new steps core listing rest = inl (ap (λ (m : Machine). m.pending) core ∙ rest)
 still_rests false middle new steps core listing rest = inr (subst (λ l. NeedsMore l.spent steps) (sym listing) rest)
 
-goes_by : (program : Program) → PicksApart → (old middle new : Session) (first : Option Event) (before final : Moment) (traffic traffic_after : Option Traffic) (steps : List Step) (g : Gave) (met : Bool) (result : Option End)
-    → Puts program old middle first before final met steps → HasRead final final → new.core ≡ middle.core → new.listing ≡ middle.listing → middle.mux.sent ≡ old.mux.sent
+goes_by : (program : Program) → PicksApart → (old middle new : Session) (first : Option Event) (before final : Moment) (traffic traffic_after : Option Traffic) (steps : List SessionStep) (g : Gave) (met : Bool) (result : Option End)
+    → Puts program old middle first before final met steps → HasReadGround final final → new.core ≡ middle.core → new.listing ≡ middle.listing → middle.mux.sent ≡ old.mux.sent
     → new.mux.inbox ≡ middle.mux.inbox
     → HaveGone middle.mux.outbox middle.mux.sent.value traffic traffic_after g new.mux.outbox new.mux.sent.value → IsEndOf g met result
     → GoesOn program old new first before final traffic traffic_after result
@@ -163,12 +163,12 @@ goes_by program law old middle new first before final traffic traffic_after step
 
 -- ---- an event
 
-rests_by : (program : Program) (old middle : Session) (first : Event) (before final : Moment) (met : Bool) (want : Option Want) (steps : List Step) → Conversing program old middle first before final want steps
+rests_by : (program : Program) (old middle : Session) (first : Event) (before final : Moment) (met : Bool) (want : Option Want) (steps : List SessionStep) → Conversing program old middle first before final want steps
     → IsMet met want middle.listing.spent → Rests met middle steps
 rests_by program old middle first before final true want steps so_far none = at_rest middle.core.feed middle.core.pending (subst (λ w. WantsFor middle.core.feed middle.core.pending w) none so_far.wants)
 rests_by program old middle first before final false want steps so_far (wanted, is, full, look) = (full, wanted, so_far.want_is ∙ is, look)
 
-conversing_puts : (program : Program) (old middle : Session) (first : Event) (before final : Moment) (met : Bool) (want : Option Want) (steps : List Step) → Conversing program old middle first before final want steps
+conversing_puts : (program : Program) (old middle : Session) (first : Event) (before final : Moment) (met : Bool) (want : Option Want) (steps : List SessionStep) → Conversing program old middle first before final want steps
     → IsMet met want middle.listing.spent → Puts program old middle (Some first) before final met steps
 conversing_puts program old middle first before final met want steps so_far is_met = record {
   leads = so_far.conversed.leads;
@@ -185,7 +185,7 @@ conversing_puts program old middle first before final met want steps so_far is_m
 }
 
 pub event_goes : (program : Program) → PicksApart → (old middle new : Session) (first : Event) (before final : Moment) (traffic traffic_after : Option Traffic) (g : Gave) (met : Bool) (result : Option End)
-    → ((steps : List Step) × (want : Option Want) × Conversing program old middle first before final want steps × IsMet met want middle.listing.spent) → HasRead final final → new.core ≡ middle.core → new.listing ≡ middle.listing → middle.mux.sent ≡ old.mux.sent
+    → ((steps : List SessionStep) × (want : Option Want) × Conversing program old middle first before final want steps × IsMet met want middle.listing.spent) → HasReadGround final final → new.core ≡ middle.core → new.listing ≡ middle.listing → middle.mux.sent ≡ old.mux.sent
     → new.mux.inbox ≡ middle.mux.inbox
     → HaveGone middle.mux.outbox middle.mux.sent.value traffic traffic_after g new.mux.outbox new.mux.sent.value → IsEndOf g met result
     → GoesOn program old new (Some first) before final traffic traffic_after result
@@ -194,7 +194,7 @@ event_goes program law old middle new first before final traffic traffic_after g
 
 -- memory ran out
 pub event_halts : (program : Program) (old new : Session) (first : Event) (before final : Moment) (traffic : Option Traffic) → Records traffic [] [] [] traffic
-    → ((steps : List Step) × (halted : Option Event) × (now : Moment) × Conversed program old new first before now steps halted × HasRead now final)
+    → ((steps : List SessionStep) × (halted : Option Event) × (now : Moment) × Conversed program old new first before now steps halted × HasReadGround now final)
     → GoesOn program old new (Some first) before final traffic traffic (Some end.Memory)
 event_halts program old new first before final traffic records (steps, halted, now, so_far, read) = (
   steps,
@@ -206,7 +206,7 @@ event_halts program old new first before final traffic records (steps, halted, n
 
 -- no event
 pub nothing_goes : (program : Program) → PicksApart → (old new : Session) (now : Moment) (traffic traffic_after : Option Traffic) (g : Gave) (result : Option End)
-    → old.core.pending ≡ pending.Nothing → IsReady old → feed_front old.core.feed ≤ now.lowest → HasRead now now → new.core ≡ old.core → new.listing ≡ old.listing
+    → old.core.pending ≡ pending.Nothing → IsReady old → feed_front old.core.feed ≤ now.lowest → HasReadGround now now → new.core ≡ old.core → new.listing ≡ old.listing
     → new.mux.inbox ≡ old.mux.inbox
     → old.listing.looks ≡ old.listing.looks ++ [] → old.listing.stored ≡ old.listing.stored ++ []
     → HaveGone old.mux.outbox old.mux.sent.value traffic traffic_after g new.mux.outbox new.mux.sent.value → IsEndOf g true result
@@ -250,14 +250,14 @@ acknowledged_requests out (takens.Owed kind number bytes) = refl
 acknowledged_requests out (takens.Whole message) = refl
 
 -- session and wire still agree
-pub gives_ready : TakesApart → AcksApart → (old middle : Session) (bytes : List ℕ) (given : Taken) → Gives old.mux bytes given middle.mux → middle.core ≡ old.core → IsReady old → IsReady middle
+pub gives_ready : TakesApart → AcksApart → (old middle : Session) (bytes : List ℕ) (given : Taken) → GivesFrame old.mux bytes given middle.mux → middle.core ≡ old.core → IsReady old → IsReady middle
 gives_ready takes acks_apart old middle bytes given gives core ready = record {
   requests = ap (λ (s : Sending). s.requests) gives.outbox ∙ acknowledged_requests old.mux.outbox given ∙ ready.requests ∙ ap (λ (m : Machine). m.requests) (sym core);
   apart = subst (λ s. AreApart s middle.mux.outbox) (sym gives.inbox) (subst (AreApart (taken_after old.mux.inbox gives.frame)) (sym gives.outbox)
       (acknowledged_apart acks_apart (taken_after old.mux.inbox gives.frame) old.mux.outbox given (takes old.mux.inbox old.mux.outbox gives.frame given gives.answer ready.apart)));
 }
 
-pub part_ready : TakesApart → AcksApart → (old middle : Session) (bytes : List ℕ) → ((given : Taken) × IsPart given × Gives old.mux bytes given middle.mux) → middle.core ≡ old.core → IsReady old → IsReady middle
+pub part_ready : TakesApart → AcksApart → (old middle : Session) (bytes : List ℕ) → ((given : Taken) × IsPartOfMessage given × GivesFrame old.mux bytes given middle.mux) → middle.core ≡ old.core → IsReady old → IsReady middle
 part_ready takes acks_apart old middle bytes (given, part, gives) core ready = gives_ready takes acks_apart old middle bytes given gives core ready
 
 -- the reply to its message may be put
@@ -271,10 +271,10 @@ may_by m message p false is may = rw is tt
 
 -- what a frame gave calls for what was done
 abbrev Calls : Taken → Option Event → Type 0
-Calls given first = (steps : List Step) → IsCalled first steps → IsForTaken given steps
+Calls given first = (steps : List SessionStep) → IsCalled first steps → IsForTaken given steps
 
-abbrev turn_of : (program : Program) (old middle new : Session) (bytes : List ℕ) (given : Taken) (first : Option Event) (before final : Moment) (traffic traffic_after : Option Traffic) (steps : List Step) (halted : Option Event) (left : Sending) (failed : List Gave)
-    → (gives : Gives old.mux bytes given middle.mux) → Calls given first → middle.core ≡ old.core → middle.listing ≡ old.listing → middle.mux.sent ≡ old.mux.sent
+abbrev turn_of : (program : Program) (old middle new : Session) (bytes : List ℕ) (given : Taken) (first : Option Event) (before final : Moment) (traffic traffic_after : Option Traffic) (steps : List SessionStep) (halted : Option Event) (left : Sending) (failed : List Gave)
+    → (gives : GivesFrame old.mux bytes given middle.mux) → Calls given first → middle.core ≡ old.core → middle.listing ≡ old.listing → middle.mux.sent ≡ old.mux.sent
     → new.mux.received ≡ middle.mux.received → new.frames ≡ old.frames + 1
     → Went program middle new first before final traffic traffic_after steps halted left failed
     → Turned program old new (got.Frame bytes) before final traffic traffic_after (record { frame = Some gives.frame; given = given; steps = steps }) halted left failed
@@ -299,7 +299,7 @@ turn_of program old middle new bytes given first before final traffic traffic_af
 }
 
 frame_goes : (program : Program) (old middle new : Session) (bytes : List ℕ) (given : Taken) (first : Option Event) (before final : Moment) (traffic traffic_after : Option Traffic) (result : Option End)
-    → (gives : Gives old.mux bytes given middle.mux) → Calls given first → middle.core ≡ old.core → middle.listing ≡ old.listing → middle.mux.sent ≡ old.mux.sent
+    → (gives : GivesFrame old.mux bytes given middle.mux) → Calls given first → middle.core ≡ old.core → middle.listing ≡ old.listing → middle.mux.sent ≡ old.mux.sent
     → new.mux.received ≡ middle.mux.received → new.frames ≡ old.frames + 1
     → GoesOn program middle new first before final traffic traffic_after result
     → Takes program old new (got.Frame bytes) before final traffic traffic_after result
@@ -341,14 +341,14 @@ frame_goes program old middle new bytes given first before final traffic traffic
 
 -- a frame whose message was answered
 pub whole_takes : (program : Program) (old middle new : Session) (bytes : List ℕ) (message : Message) (before final : Moment) (traffic traffic_after : Option Traffic) (result : Option End)
-    → Gives old.mux bytes (takens.Whole message) middle.mux → middle.core ≡ old.core → middle.listing ≡ old.listing → middle.mux.sent ≡ old.mux.sent
+    → GivesFrame old.mux bytes (takens.Whole message) middle.mux → middle.core ≡ old.core → middle.listing ≡ old.listing → middle.mux.sent ≡ old.mux.sent
     → new.mux.received ≡ middle.mux.received → new.frames ≡ old.frames + 1
     → GoesOn program middle new (Some (event.Whole message)) before final traffic traffic_after result
     → Takes program old new (got.Frame bytes) before final traffic traffic_after result
 whole_takes program old middle new bytes message before final traffic traffic_after result gives core listing sent received count goes =
     frame_goes program old middle new bytes (takens.Whole message) (Some (event.Whole message)) before final traffic traffic_after result gives (λ steps called. called) core listing sent received count goes
 
-part_calls : (given : Taken) → IsPart given → Calls given None
+part_calls : (given : Taken) → IsPartOfMessage given → Calls given None
 part_calls takens.Nothing part steps called = called
 part_calls (takens.Ack kind number bytes) part steps called = called
 part_calls (takens.Owed kind number bytes) part steps called = called
@@ -356,7 +356,7 @@ part_calls (takens.Whole message) part steps called = absurd part
 
 -- a frame that gave none
 pub part_takes : (program : Program) (old middle new : Session) (bytes : List ℕ) (before final : Moment) (traffic traffic_after : Option Traffic) (result : Option End)
-    → ((given : Taken) × IsPart given × Gives old.mux bytes given middle.mux) → middle.core ≡ old.core → middle.listing ≡ old.listing → middle.mux.sent ≡ old.mux.sent
+    → ((given : Taken) × IsPartOfMessage given × GivesFrame old.mux bytes given middle.mux) → middle.core ≡ old.core → middle.listing ≡ old.listing → middle.mux.sent ≡ old.mux.sent
     → new.mux.received ≡ middle.mux.received → new.frames ≡ old.frames + 1
     → GoesOn program middle new None before final traffic traffic_after result
     → Takes program old new (got.Frame bytes) before final traffic traffic_after result
@@ -365,7 +365,7 @@ part_takes program old middle new bytes before final traffic traffic_after resul
 
 -- ---- the turn of an idle moment
 
-abbrev idle_turn : (program : Program) (old new : Session) (front : ℕ) (before final : Moment) (traffic traffic_after : Option Traffic) (steps : List Step) (halted : Option Event) (left : Sending) (failed : List Gave)
+abbrev idle_turn : (program : Program) (old new : Session) (front : ℕ) (before final : Moment) (traffic traffic_after : Option Traffic) (steps : List SessionStep) (halted : Option Event) (left : Sending) (failed : List Gave)
     → waits old.core.feed ≡ true → new.mux.received ≡ old.mux.received → new.frames ≡ old.frames
     → Went program old new (Some (event.Idle front)) before final traffic traffic_after steps halted left failed
     → Turned program old new got.Idle before final traffic traffic_after (record { frame = None; given = takens.Nothing; steps = steps }) halted left failed
@@ -431,7 +431,7 @@ idle_takes program old new front before final traffic traffic_after (Some end.Me
     )
 
 -- no feed waits
-pub idle_passes : (program : Program) (old : Session) (now : Moment) (traffic : Option Traffic) → waits old.core.feed ≡ false → IsAtRest old → feed_front old.core.feed ≤ now.lowest → HasRead now now → Records traffic [] [] [] traffic
+pub idle_passes : (program : Program) (old : Session) (now : Moment) (traffic : Option Traffic) → waits old.core.feed ≡ false → IsAtRest old → feed_front old.core.feed ≤ now.lowest → HasReadGround now now → Records traffic [] [] [] traffic
     → old.listing.looks ≡ old.listing.looks ++ [] → old.listing.stored ≡ old.listing.stored ++ []
     → Takes program old old got.Idle now now traffic traffic None
 idle_passes program old now traffic waiting rest front read records looks stored = (

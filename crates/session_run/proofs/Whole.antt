@@ -18,7 +18,7 @@ use Rattle.session_core.specs.Conduct.{AreWithin}
 use Rattle.session_core.specs.Fronts.{looks_of, stored_as, stored_by, stored_of, RiseBetween}
 use Rattle.session_core.specs.Right.{AreRight}
 use Rattle.session_core.specs.State.{Machine, new_machine}
-use Rattle.session_core.specs.Steps.{Step, Steps, Leads}
+use Rattle.session_core.specs.Steps.{SessionStep, Steps, Leads}
 use Rattle.write_path.specs.Proposals.{recorded_after}
 use Rattle.write_path.specs.Reads.{Reads, WasRead, IsLaterThanAll}
 use Rattle.session_run.specs.declared.ended.Ended.{Ended}
@@ -29,7 +29,7 @@ use Rattle.session_run.specs.Served.{IsSession}
 use Rattle.session_run.specs.Turns.{SessionTurn, undone, steps_of, AreLed}
 use Rattle.session_run.proofs.Answering.{OwnSince, own_read, looks_on, rise_on}
 
-leads_on : (start middle after : Machine) (steps earlier : List Step) → Leads start earlier middle → Leads middle steps after → Leads start (steps ++ earlier) after
+leads_on : (start middle after : Machine) (steps earlier : List SessionStep) → Leads start earlier middle → Leads middle steps after → Leads start (steps ++ earlier) after
 leads_on start middle after [] earlier lead is = subst (Leads start earlier) (sym is) lead
 leads_on start middle after (s ∷ steps) earlier lead (before, leads, made) = (before, leads_on start middle before steps earlier lead leads, made)
 
@@ -41,12 +41,12 @@ all_lead start halted (t ∷ earlier) m (before, led, leads, calls) =
 -- ---- what was answered
 
 -- what holds of all steps holds of those that were made
-right_made : (h : List Entry) (user : List ℕ) (program : Program) (strict : Bool) (halted : Option Event) (steps : List Step) → AreRight h user program strict (undone halted ++ steps) → AreRight h user program strict steps
+right_made : (h : List Entry) (user : List ℕ) (program : Program) (strict : Bool) (halted : Option Event) (steps : List SessionStep) → AreRight h user program strict (undone halted ++ steps) → AreRight h user program strict steps
 right_made h user program strict None steps right = right
 right_made h user program strict (Some e) steps right = right.1
 
 abbrev pub AnswersRight : Type 0
-AnswersRight = (start now : Moment) (user : List ℕ) (program : Program) (strict : Bool) (steps : List Step) (h : List Entry) → AreAnswered start user program strict steps now → IsLaterThanAll now.read h → AreRight h user program strict steps
+AnswersRight = (start now : Moment) (user : List ℕ) (program : Program) (strict : Bool) (steps : List SessionStep) (h : List Entry) → AreAnswered start user program strict steps now → IsLaterThanAll now.read h → AreRight h user program strict steps
 
 abbrev pub ReadBefore : Type 0
 ReadBefore = (before after : List BoardState) (low high : ℕ) (h : List Entry) → Reads before after low high → IsLaterThanAll after h → IsLaterThanAll before h
@@ -61,10 +61,10 @@ all_right law read setup start final ended results sent failed h session later =
 -- ---- bodies
 
 abbrev pub OwnBodies : Type 0
-OwnBodies = (h : List Entry) (user : List ℕ) (version : Version) (program : Program) (strict : Bool) (earlier : List Step) (before : Machine) (s : Step) (after : Machine)
+OwnBodies = (h : List Entry) (user : List ℕ) (version : Version) (program : Program) (strict : Bool) (earlier : List SessionStep) (before : Machine) (s : SessionStep) (after : Machine)
     → Leads (new_machine user version strict) earlier before → Steps before s after → AreRight h user program strict (s ∷ earlier) → HasOwnBodies h user before s
 
-have_own : OwnBodies → (h : List Entry) (user : List ℕ) (version : Version) (program : Program) (strict : Bool) (steps : List Step) (after : Machine)
+have_own : OwnBodies → (h : List Entry) (user : List ℕ) (version : Version) (program : Program) (strict : Bool) (steps : List SessionStep) (after : Machine)
     → Leads (new_machine user version strict) steps after → AreRight h user program strict steps → HaveOwnBodies h user (new_machine user version strict) steps
 have_own law h user version program strict [] after leads right = tt
 have_own law h user version program strict (s ∷ earlier) after (before, leads, made) right = (
@@ -107,10 +107,10 @@ looks_within law before (l ∷ looks) after h (between, b, was, is, more) later 
     (subst (λ n. n ≤ length h) (sym is) (longer b.log h (law before between b h was still)), looks_within law between looks after h more later)
 
 abbrev pub AnswersLooks : Type 0
-AnswersLooks = (start now : Moment) (user : List ℕ) (program : Program) (strict : Bool) (steps : List Step) → AreAnswered start user program strict steps now → AreLooksAt start.read (looks_of steps) now.read
+AnswersLooks = (start now : Moment) (user : List ℕ) (program : Program) (strict : Bool) (steps : List SessionStep) → AreAnswered start user program strict steps now → AreLooksAt start.read (looks_of steps) now.read
 
 abbrev pub AnswersFronts : Type 0
-AnswersFronts = (start now : Moment) (user : List ℕ) (program : Program) (strict : Bool) (steps : List Step) → AreAnswered start user program strict steps now → RiseBetween start.lowest (look_fronts (looks_of steps)) now.lowest
+AnswersFronts = (start now : Moment) (user : List ℕ) (program : Program) (strict : Bool) (steps : List SessionStep) → AreAnswered start user program strict steps now → RiseBetween start.lowest (look_fronts (looks_of steps)) now.lowest
 
 pub all_looks : AnswersLooks → (setup : Setup) (start final : Moment) (ended : Ended) (results : List Got) (sent : List (List ℕ)) (failed : List Gave)
     → IsSession setup start final ended results sent failed → AreLooksAt start.read ended.looks final.read
@@ -132,7 +132,7 @@ all_fronts law setup start final ended results sent failed session =
 -- ---- own entries
 
 abbrev pub AnswersOwn : Type 0
-AnswersOwn = (start now : Moment) (user : List ℕ) (program : Program) (strict : Bool) (steps : List Step) → AreAnswered start user program strict steps now → OwnSince start user program (stored_of steps) now
+AnswersOwn = (start now : Moment) (user : List ℕ) (program : Program) (strict : Bool) (steps : List SessionStep) → AreAnswered start user program strict steps now → OwnSince start user program (stored_of steps) now
 
 pub all_judged : AnswersOwn → (setup : Setup) (start final : Moment) (ended : Ended) (results : List Got) (sent : List (List ℕ)) (failed : List Gave)
     → IsSession setup start final ended results sent failed → OwnSince start setup.user (arc_value setup.program) ended.stored final
@@ -144,7 +144,7 @@ all_judged law setup start final ended results sent failed session =
 -- ---- reads
 
 abbrev pub AnswersReads : Type 0
-AnswersReads = (start now : Moment) (user : List ℕ) (program : Program) (strict : Bool) (steps : List Step) → AreAnswered start user program strict steps now → Reads start.read now.read start.lowest now.lowest
+AnswersReads = (start now : Moment) (user : List ℕ) (program : Program) (strict : Bool) (steps : List SessionStep) → AreAnswered start user program strict steps now → Reads start.read now.read start.lowest now.lowest
 
 abbrev pub ReadOn : Type 0
 ReadOn = (first second third : List BoardState) (low middle high : ℕ) → Reads first second low middle → Reads second third middle high → Reads first third low high
@@ -181,7 +181,7 @@ more_by m (event.Judged answer) = more_stored m answer
 more_by m (event.Got answer) = ap Some (omega arith)
 more_by m (event.Set answer) = ap Some (omega arith)
 
-one_for_each : (n : ℕ) (steps : List Step) → recorded_by (Some n) steps ≡ Some (n + length (stored_of steps))
+one_for_each : (n : ℕ) (steps : List SessionStep) → recorded_by (Some n) steps ≡ Some (n + length (stored_of steps))
 one_for_each n [] = ap Some (omega arith)
 one_for_each n (s ∷ earlier) =
     ap (λ (recorded : Option ℕ). length_after recorded s.event) (one_for_each n earlier)
@@ -189,12 +189,12 @@ one_for_each n (s ∷ earlier) =
     ∙ ap Some (omega (arith, length-append (stored_of earlier) (stored_by s.event)))
 
 abbrev pub AnswersRecorded : Type 0
-AnswersRecorded = (start now : Moment) (user : List ℕ) (program : Program) (strict : Bool) (steps : List Step) → AreAnswered start user program strict steps now → now.recorded ≡ recorded_by start.recorded steps
+AnswersRecorded = (start now : Moment) (user : List ℕ) (program : Program) (strict : Bool) (steps : List SessionStep) → AreAnswered start user program strict steps now → now.recorded ≡ recorded_by start.recorded steps
 
 pub all_recorded : AnswersRecorded → (setup : Setup) (start final : Moment) (ended : Ended) (results : List Got) (sent : List (List ℕ)) (failed : List Gave) (n : ℕ)
     → IsSession setup start final ended results sent failed → start.recorded ≡ Some n → final.recorded ≡ Some (n + length ended.stored)
 all_recorded law setup start final ended results sent failed n session is =
-    let steps : List Step = undone session.halted ++ steps_of session.turns in
+    let steps : List SessionStep = undone session.halted ++ steps_of session.turns in
     session.reads.recorded
     ∙ law start session.now setup.user (arc_value setup.program) setup.strict steps session.answered
     ∙ ap (λ (recorded : Option ℕ). recorded_by recorded steps) is

@@ -5,7 +5,7 @@ use Rattle.sg_history.specs.Board.{BoardState, SideEntry}
 use Rattle.checkpoint_store.specs.declared.answers.Kept0.{Kept0}
 use Rattle.checkpoint_store.specs.declared.answers.SetAnswer.{SetAnswer}
 use Rattle.checkpoint_store.specs.Answers.{kept_at, Sets}
-use Rattle.checkpoint_store.specs.Checkpoints.{pair_text}
+use Rattle.checkpoint_store.specs.Checkpoints.{checkpoint_text}
 use Rattle.repl_messages.specs.declared.revision.Revision.{Revision}
 use Rattle.sync_syntax.specs.declared.tree.Program.{Program}
 use Rattle.doc_board.specs.declared.outcome.Outcome.{Outcome}
@@ -15,7 +15,7 @@ use Rattle.session_core.specs.declared.event.Event.{Event}
 use Rattle.session_core.specs.declared.event.Event.TheVariants as event
 use Rattle.session_core.specs.declared.look.Look.{Look}
 use Rattle.session_core.specs.Fronts.{front_by}
-use Rattle.session_core.specs.Steps.{Step, wanted_after}
+use Rattle.session_core.specs.Steps.{SessionStep, wanted_after}
 use Rattle.board_steps.specs.Asks.{AskedAt}
 use Rattle.board_steps.specs.Bodies.{BodiesAt}
 use Rattle.board_steps.specs.Feed.{FeedAt}
@@ -38,7 +38,7 @@ moment read lowest recorded checkpoints own =
     record { read = read; lowest = lowest; recorded = recorded; checkpoints = checkpoints; own = own }
 
 -- the ground has read, and nothing more
-pub record HasRead (before after : Moment) : Type 0 where
+pub record HasReadGround (before after : Moment) : Type 0 where
   pub reads : Reads before.read after.read before.lowest after.lowest
   pub recorded : after.recorded ≡ before.recorded
   pub checkpoints : after.checkpoints ≡ before.checkpoints
@@ -49,7 +49,7 @@ abbrev pub Saw : Moment → Moment → (BoardState → Type 0) → Type 0
 Saw before after Holds = (b : BoardState) × WasRead before.read after.read b × HasLength before.recorded b × Holds b
 
 -- the length of the log was loaded, without a read
-pub record IsLoaded (before : Moment) (front : ℕ) (after : Moment) : Type 0 where
+pub record IsFrontLoaded (before : Moment) (front : ℕ) (after : Moment) : Type 0 where
   pub read : after.read ≡ before.read
   pub rises : before.lowest ≤ front
   pub lowest : after.lowest ≡ front
@@ -59,7 +59,7 @@ pub record IsLoaded (before : Moment) (front : ℕ) (after : Moment) : Type 0 wh
   pub length : IfSome before.recorded (λ n. front ≡ n)
 
 -- a revision was proposed, to be judged by this program
-pub record IsProposed (before : Moment) (user : List ℕ) (program : Program) (strict : Bool) (r : Revision) (answer : Outcome) (after : Moment) : Type 0 where
+pub record IsProposalAnswered (before : Moment) (user : List ℕ) (program : Program) (strict : Bool) (r : Revision) (answer : Outcome) (after : Moment) : Type 0 where
   pub stores : Stores before.read after.read before.lowest after.lowest before.own after.own before.recorded program strict (Some user) r answer
   pub recorded : after.recorded ≡ recorded_after before.recorded answer
   pub checkpoints : after.checkpoints ≡ before.checkpoints
@@ -67,39 +67,39 @@ pub record IsProposed (before : Moment) (user : List ℕ) (program : Program) (s
 -- the checkpoint of the user's client was had of a board that was read in between, which has the recorded checkpoints
 abbrev pub SawCheckpoint : Moment → Moment → List ℕ → List ℕ → Kept0 → Type 0
 SawCheckpoint before after user client answer =
-    (b : BoardState) × WasRead before.read after.read b × HasCheckpoints before.checkpoints b × (answer ≡ kept_at b.side (pair_text user client))
+    (b : BoardState) × WasRead before.read after.read b × HasCheckpoints before.checkpoints b × (answer ≡ kept_at b.side (checkpoint_text user client))
 
 -- the checkpoint of the user's client was set, or not, by what the answer says
 pub record IsSet (before : Moment) (user client : List ℕ) (rev : ℕ) (body : List ℕ) (answer : SetAnswer) (after : Moment) : Type 0 where
   pub reads : Reads before.read after.read before.lowest after.lowest
   pub recorded : after.recorded ≡ before.recorded
   pub own : after.own ≡ before.own
-  pub sets : SetsCheckpoint before.read after.read before.checkpoints after.checkpoints (pair_text user client) rev body answer
+  pub sets : SetsCheckpoint before.read after.read before.checkpoints after.checkpoints (checkpoint_text user client) rev body answer
 
 -- What was wanted is answered by this event: by a board that was read for it, and for nothing else. Where nothing was wanted the event
 -- is a message, or an idle moment at which the length of the log was loaded.
-abbrev pub IsAnswered : Moment → List ℕ → Program → Bool → Option Want → Event → Moment → Type 0
-IsAnswered before user program strict None (event.Whole message) after = after ≡ before
-IsAnswered before user program strict None (event.Idle front) after = IsLoaded before front after
-IsAnswered before user program strict (Some (want.Feed since options)) (event.Fed answer) after =
-    HasRead before after × Saw before after (λ b. FeedAt b.log user since options answer)
-IsAnswered before user program strict (Some (want.Bodies options rows most)) (event.Bodies answer) after =
-    HasRead before after × Saw before after (λ b. BodiesAt b user options rows most answer)
-IsAnswered before user program strict (Some (want.Ask offers)) (event.Asked answer) after =
-    HasRead before after × Saw before after (λ b. AskedAt b offers answer)
-IsAnswered before user program strict (Some (want.Propose r)) (event.Judged answer) after =
-    IsProposed before user program (strict || r.noconflicts) r answer after
-IsAnswered before user program strict (Some (want.GetCheckpoint client)) (event.Got answer) after =
-    HasRead before after × SawCheckpoint before after user client answer
-IsAnswered before user program strict (Some (want.SetCheckpoint client rev body)) (event.Set answer) after =
+abbrev pub IsEventAnswered : Moment → List ℕ → Program → Bool → Option Want → Event → Moment → Type 0
+IsEventAnswered before user program strict None (event.Whole message) after = after ≡ before
+IsEventAnswered before user program strict None (event.Idle front) after = IsFrontLoaded before front after
+IsEventAnswered before user program strict (Some (want.Feed since options)) (event.Fed answer) after =
+    HasReadGround before after × Saw before after (λ b. FeedAt b.log user since options answer)
+IsEventAnswered before user program strict (Some (want.Bodies options rows most)) (event.Bodies answer) after =
+    HasReadGround before after × Saw before after (λ b. BodiesAt b user options rows most answer)
+IsEventAnswered before user program strict (Some (want.Ask offers)) (event.Asked answer) after =
+    HasReadGround before after × Saw before after (λ b. AskedAt b offers answer)
+IsEventAnswered before user program strict (Some (want.Propose r)) (event.Judged answer) after =
+    IsProposalAnswered before user program (strict || r.noconflicts) r answer after
+IsEventAnswered before user program strict (Some (want.GetCheckpoint client)) (event.Got answer) after =
+    HasReadGround before after × SawCheckpoint before after user client answer
+IsEventAnswered before user program strict (Some (want.SetCheckpoint client rev body)) (event.Set answer) after =
     IsSet before user client rev body answer after
-IsAnswered before user program strict wanted other after = ⊥
+IsEventAnswered before user program strict wanted other after = ⊥
 
 -- the events of steps were answered one after another, from one moment to another; the last step is the first of the list
-abbrev pub AreAnswered : Moment → List ℕ → Program → Bool → List Step → Moment → Type 0
+abbrev pub AreAnswered : Moment → List ℕ → Program → Bool → List SessionStep → Moment → Type 0
 AreAnswered start user program strict [] now = now ≡ start
 AreAnswered start user program strict (s ∷ earlier) now =
-    (between : Moment) × AreAnswered start user program strict earlier between × IsAnswered between user program strict (wanted_after earlier) s.event now
+    (between : Moment) × AreAnswered start user program strict earlier between × IsEventAnswered between user program strict (wanted_after earlier) s.event now
 
 -- ---- the looks
 
@@ -121,7 +121,7 @@ length_after n (event.Judged answer) = recorded_after n answer
 length_after n other = n
 
 -- a recorded length once steps were made
-abbrev pub recorded_by : Option ℕ → List Step → Option ℕ
+abbrev pub recorded_by : Option ℕ → List SessionStep → Option ℕ
 recorded_by n [] = n
 recorded_by n (s ∷ earlier) = length_after (recorded_by n earlier) s.event
 
@@ -132,7 +132,7 @@ AreLength (Some n) [] = Unit {0}
 AreLength (Some n) (front ∷ fronts) = (front ≡ n) × AreLength (Some n) fronts
 
 -- where a length is recorded at the start, each look and each load is at that length and the entries stored by then
-abbrev pub AreAtLength : Option ℕ → List Step → Type 0
+abbrev pub AreAtLength : Option ℕ → List SessionStep → Type 0
 AreAtLength n [] = Unit {0}
 AreAtLength n (s ∷ earlier) = AreLength (recorded_by n earlier) (front_by s.event) × AreAtLength n earlier
 
@@ -141,13 +141,13 @@ AreAtLength n (s ∷ earlier) = AreLength (recorded_by n earlier) (front_by s.ev
 -- what was wanted of the checkpoints of a user's clients is answered by these, and leaves those; everything else leaves them as they are
 abbrev pub IsOfStore : List ℕ → List SideEntry → Option Want → Event → List SideEntry → Type 0
 IsOfStore user before (Some (want.GetCheckpoint client)) (event.Got answer) after =
-    (answer ≡ kept_at before (pair_text user client)) × (after ≡ before)
+    (answer ≡ kept_at before (checkpoint_text user client)) × (after ≡ before)
 IsOfStore user before (Some (want.SetCheckpoint client rev body)) (event.Set answer) after =
-    Sets before (pair_text user client) rev body answer after
+    Sets before (checkpoint_text user client) rev body answer after
 IsOfStore user before wanted other after = after ≡ before
 
 -- what was wanted of the checkpoints in steps is answered by one store, which has these at first and those then
-abbrev pub AreOfStore : List ℕ → List SideEntry → List Step → List SideEntry → Type 0
+abbrev pub AreOfStore : List ℕ → List SideEntry → List SessionStep → List SideEntry → Type 0
 AreOfStore user start [] now = now ≡ start
 AreOfStore user start (s ∷ earlier) now =
     (between : List SideEntry) × AreOfStore user start earlier between × IsOfStore user between (wanted_after earlier) s.event now

@@ -4,13 +4,13 @@ use Rattle.std.specs.Option.{unwrap_or}
 use Rattle.sg_history.specs.Board.{SideEntry}
 use Rattle.checkpoint_store.specs.declared.answers.Kept0.TheVariants as kept0
 use Rattle.checkpoint_store.specs.declared.answers.SetAnswer.TheVariants as set
-use Rattle.checkpoint_store.specs.Checkpoints.{pair_text}
-use Rattle.checkpoint_store.specs.SideMaps.{number_at}
+use Rattle.checkpoint_store.specs.Checkpoints.{checkpoint_text}
+use Rattle.checkpoint_store.specs.SideMaps.{side_number}
 use Rattle.session_core.specs.declared.act.Want.{Want}
 use Rattle.session_core.specs.declared.act.Want.TheVariants as want
 use Rattle.session_core.specs.declared.event.Event.{Event}
 use Rattle.session_core.specs.declared.event.Event.TheVariants as event
-use Rattle.session_core.specs.Steps.{Step, wanted_after}
+use Rattle.session_core.specs.Steps.{SessionStep, wanted_after}
 
 -- a number that an answer names for a client
 pub record ClientNumber : Type 0 where
@@ -27,13 +27,13 @@ named_by (Some (want.SetCheckpoint client rev body)) (event.Set (set.Conflict409
 named_by wanted other = []
 
 -- those of steps, the last step first, and the last number first
-abbrev pub named_of : List Step → List ClientNumber
+abbrev pub named_of : List SessionStep → List ClientNumber
 named_of [] = []
 named_of (s ∷ earlier) = named_by (wanted_after earlier) s.event ++ named_of earlier
 
 -- the number of a user's client in a side map, 0 where it has none
 abbrev pub number_in : List SideEntry → List ℕ → List ℕ → ℕ
-number_in side user client = unwrap_or (number_at side (pair_text user client)) 0
+number_in side user client = unwrap_or (side_number side (checkpoint_text user client)) 0
 
 -- none of these is above what the side map has for its client
 abbrev pub AreNamedWithin : List ℕ → List SideEntry → List ClientNumber → Type 0

@@ -18,7 +18,7 @@ use Rattle.session_core.specs.declared.event.Event.TheVariants as event
 use Rattle.session_core.specs.Acts.{removed_body}
 use Rattle.session_core.specs.Running.{Running}
 use Rattle.session_core.specs.State.{Machine}
-use Rattle.session_core.specs.Steps.{Step, Leads}
+use Rattle.session_core.specs.Steps.{SessionStep, Leads}
 
 -- a message that carries a body
 abbrev pub IsRev : Message → Type 0
@@ -62,7 +62,7 @@ CarryNone (m ∷ messages) = (IsRev m → ⊥) × CarryNone messages
 
 -- at the look by which the bodies of rows on offer were answered, by the history at its front and by the documents' trees as they were
 -- seen, no less than up to that front
-pub record OwnAt (h : List Entry) (user : List ℕ) (before : Machine) (s : Step) : Type 0 where
+pub record OwnAt (h : List Entry) (user : List ℕ) (before : Machine) (s : SessionStep) : Type 0 where
   pub feed : Running
   pub runs : before.feed ≡ Some feed
   pub answer : Bodies
@@ -72,11 +72,11 @@ pub record OwnAt (h : List Entry) (user : List ℕ) (before : Machine) (s : Step
   pub own : AreOwn (past h answer.front) (trees_up_to (book_of h) numbers) user feed s.puts
 
 -- a step puts no body but the user's own, as the feed that runs shows them
-abbrev pub HasOwnBodies : List Entry → List ℕ → Machine → Step → Type 0
+abbrev pub HasOwnBodies : List Entry → List ℕ → Machine → SessionStep → Type 0
 HasOwnBodies h user before s = CarryNone s.puts ⊎ OwnAt h user before s
 
 -- the same of each of these steps, which lead on from one state; the last step is the first of the list
-abbrev pub HaveOwnBodies : List Entry → List ℕ → Machine → List Step → Type 0
+abbrev pub HaveOwnBodies : List Entry → List ℕ → Machine → List SessionStep → Type 0
 HaveOwnBodies h user start [] = Unit {0}
 HaveOwnBodies h user start (s ∷ earlier) =
     ((before : Machine) × Leads start earlier before × HasOwnBodies h user before s) × HaveOwnBodies h user start earlier

@@ -14,7 +14,7 @@ use Rattle.session_core.specs.declared.event.Event.{Event}
 use Rattle.session_core.specs.declared.machine.Pending.TheVariants as pending
 use Rattle.session_core.specs.Fronts.{looks_of, stored_of}
 use Rattle.session_core.specs.State.{Machine, new_machine}
-use Rattle.session_core.specs.Steps.{Step}
+use Rattle.session_core.specs.Steps.{SessionStep}
 use Rattle.session_mux.specs.declared.frame_why.FrameWhy.{FrameWhy}
 use Rattle.session_mux.specs.declared.frame_why.FrameWhy.TheVariants as why
 use Rattle.session_mux.specs.Frames.{IsBadTaken, why_of}
@@ -23,9 +23,9 @@ use Rattle.session_run.specs.declared.ended.End.{End}
 use Rattle.session_run.specs.declared.ended.End.TheVariants as end
 use Rattle.session_run.specs.declared.ended.Ended.{Ended}
 use Rattle.session_run.specs.declared.serve.Setup.{Setup}
-use Rattle.session_run.specs.Answered.{Moment, HasRead, AreAnswered}
+use Rattle.session_run.specs.Answered.{Moment, HasReadGround, AreAnswered}
 use Rattle.session_run.specs.Spent.{most_looks, spent_of, NeedsMore}
-use Rattle.session_run.specs.Turns.{SessionTurn, undone, steps_of, frames_of, framed, framed_by, events_of, AreLed, AreJoined, AreSent}
+use Rattle.session_run.specs.Turns.{SessionTurn, undone, steps_of, turn_frames, framed, framed_by, events_of, AreLed, AreJoined, AreSent}
 
 -- ---- what was received
 
@@ -40,21 +40,21 @@ are_frames (got.Failed ∷ results) = false
 are_frames (got.Memory ∷ results) = false
 
 -- the bytes of the frames
-abbrev pub bytes_of : List Got → List (List ℕ)
-bytes_of [] = []
-bytes_of (got.Frame bytes ∷ results) = bytes ∷ bytes_of results
-bytes_of (got.Text ∷ results) = bytes_of results
-bytes_of (got.Idle ∷ results) = bytes_of results
-bytes_of (got.End ∷ results) = bytes_of results
-bytes_of (got.Failed ∷ results) = bytes_of results
-bytes_of (got.Memory ∷ results) = bytes_of results
+abbrev pub frame_bytes : List Got → List (List ℕ)
+frame_bytes [] = []
+frame_bytes (got.Frame bytes ∷ results) = bytes ∷ frame_bytes results
+frame_bytes (got.Text ∷ results) = frame_bytes results
+frame_bytes (got.Idle ∷ results) = frame_bytes results
+frame_bytes (got.End ∷ results) = frame_bytes results
+frame_bytes (got.Failed ∷ results) = frame_bytes results
+frame_bytes (got.Memory ∷ results) = frame_bytes results
 
 -- ---- how it ended
 
 -- the last of these frames is at fault: its bytes are none, or after these turns, which left this to be sent, it gives nothing that can be
 abbrev pub IsBadAfter : List SessionTurn → Sending → Result (List FrameParts) FrameFault → FrameWhy → Type 0
 IsBadAfter turns left (Err fault) w = w ≡ why_of fault
-IsBadAfter turns left (Ok frames) w = (f : FrameParts) × (frames ≡ frames_of turns ++ f ∷ []) × IsBadTaken (answer_in (events_of turns) f) left w
+IsBadAfter turns left (Ok frames) w = (f : FrameParts) × (frames ≡ turn_frames turns ++ f ∷ []) × IsBadTaken (answer_in (events_of turns) f) left w
 
 -- the result that ended it is a frame at fault, or a text message
 abbrev pub IsBad : List SessionTurn → Sending → List (List ℕ) → Got → FrameWhy → Type 0
@@ -76,7 +76,7 @@ abbrev pub EndsBy : List SessionTurn → Sending → End → List Got → List G
 EndsBy turns left end.Closed taken last failed = (last ≡ got.End ∷ []) × (failed ≡ [])
 EndsBy turns left end.WireFault taken last failed = ((last ≡ got.Failed ∷ []) × (failed ≡ [])) ⊎ ((last ≡ []) × (failed ≡ gave.Failed ∷ []))
 EndsBy turns left (end.BadFrame index w) taken last failed =
-    (index ≡ length (frames_of turns) + 1) × (bad : Got) × (last ≡ bad ∷ []) × IsBad turns left (bytes_of taken) bad w × (failed ≡ [])
+    (index ≡ length (turn_frames turns) + 1) × (bad : Got) × (last ≡ bad ∷ []) × IsBad turns left (frame_bytes taken) bad w × (failed ≡ [])
 EndsBy turns left end.LooksFull taken last failed = (last ≡ []) × (failed ≡ [])
 EndsBy turns left end.TurnsFull taken last failed = (last ≡ []) × (length taken ≡ most_results) × (failed ≡ [])
 EndsBy turns left end.Memory taken last failed = (((bytes : List ℕ) × (last ≡ got.Frame bytes ∷ [])) ⊎ (last ≡ [])) × (failed ≡ [])
@@ -92,7 +92,7 @@ IsSentAt end.Memory left = Unit {0}
 
 -- Each event was dealt with, unless memory ran out. Where the looks are full, one more is needed than a session takes; where the wire
 -- failed, that, or no answer is awaited; at each other end none is.
-abbrev pub IsClosedAt : End → List Step → Machine → Option Event → Type 0
+abbrev pub IsClosedAt : End → List SessionStep → Machine → Option Event → Type 0
 IsClosedAt end.Memory steps m halted = Unit {0}
 IsClosedAt end.LooksFull steps m halted = NeedsMore (spent_of steps) steps × (halted ≡ None)
 IsClosedAt end.WireFault steps m halted = ((m.pending ≡ pending.Nothing) ⊎ NeedsMore (spent_of steps) steps) × (halted ≡ None)
@@ -123,12 +123,12 @@ pub record IsSession (setup : Setup) (start final : Moment) (ended : Ended) (res
   pub count : length results ≤ most_results
   pub taken_are : are_frames taken ≡ true
   pub kinds : framed_by taken ≡ framed turns
-  pub read : frames_at 0 (bytes_of taken) ≡ Ok (frames_of turns)
+  pub read : frames_at 0 (frame_bytes taken) ≡ Ok (turn_frames turns)
   pub joined : AreJoined turns
   pub led : AreLed (new_machine setup.user setup.version setup.strict) halted turns machine
   pub closed : IsClosedAt ended.end (steps_of turns) machine halted
   pub answered : AreAnswered start setup.user (arc_value setup.program) setup.strict (undone halted ++ steps_of turns) now
-  pub reads : HasRead now final
+  pub reads : HasReadGround now final
   pub still : IsStillAt ended.end now final
   pub looks : ended.looks ≡ looks_of (undone halted ++ steps_of turns)
   pub stored : ended.stored ≡ stored_of (undone halted ++ steps_of turns)

@@ -5,7 +5,7 @@ use Rattle.session_core.specs.declared.act.Want.TheVariants as want
 use Rattle.session_core.specs.declared.event.Event.{Event}
 use Rattle.session_core.specs.declared.event.Event.TheVariants as event
 use Rattle.session_core.specs.Fronts.{look_of}
-use Rattle.session_core.specs.Steps.{Step, wanted_after}
+use Rattle.session_core.specs.Steps.{SessionStep, wanted_after}
 use Rattle.write_path.specs.Origins.{Origin}
 
 -- how many looks a session takes at most; a proposal counts as one, whether or not a board was read for it
@@ -24,12 +24,12 @@ looks_for (want.SetCheckpoint client rev body) = 0
 looks_for other = 1
 
 -- by steps
-abbrev pub spent_of : List Step → ℕ
+abbrev pub spent_of : List SessionStep → ℕ
 spent_of [] = 0
 spent_of (s ∷ earlier) = spent_of earlier + spent_by s.event
 
 -- all are spent, and one more is wanted after these steps, the last of which is the first of the list
-abbrev pub NeedsMore : ℕ → List Step → Type 0
+abbrev pub NeedsMore : ℕ → List SessionStep → Type 0
 NeedsMore spent steps = (spent ≡ most_looks) × (wanted : Want) × (wanted_after steps ≡ Some wanted) × (looks_for wanted ≡ 1)
 
 -- nothing is wanted, or one of these, and all are spent

@@ -15,7 +15,7 @@ use Rattle.session_core.specs.declared.event.Event.TheVariants as event
 use Rattle.session_core.specs.Conduct.{is_answer}
 use Rattle.session_core.specs.Running.{waits}
 use Rattle.session_core.specs.State.{Machine}
-use Rattle.session_core.specs.Steps.{Step, Leads, put_by}
+use Rattle.session_core.specs.Steps.{SessionStep, Leads, put_by}
 use Rattle.session_mux.specs.Muxed.{acknowledged_by, IsNoBadAck}
 
 -- a frame that was taken and what it gave, or an idle moment, which gave nothing; and the steps that the session made for it, the last
@@ -23,10 +23,10 @@ use Rattle.session_mux.specs.Muxed.{acknowledged_by, IsNoBadAck}
 pub record SessionTurn : Type 0 where
   pub frame : Option FrameParts
   pub given : Taken
-  pub steps : List Step
+  pub steps : List SessionStep
 
 -- all steps, the last of which is the first of the list, as of the turns
-abbrev pub steps_of : List SessionTurn → List Step
+abbrev pub steps_of : List SessionTurn → List SessionStep
 steps_of [] = []
 steps_of (t ∷ earlier) = t.steps ++ steps_of earlier
 
@@ -35,9 +35,9 @@ frame_in None = []
 frame_in (Some f) = f ∷ []
 
 -- the frames that were taken, in order
-abbrev pub frames_of : List SessionTurn → List FrameParts
-frames_of [] = []
-frames_of (t ∷ earlier) = frames_of earlier ++ frame_in t.frame
+abbrev pub turn_frames : List SessionTurn → List FrameParts
+turn_frames [] = []
+turn_frames (t ∷ earlier) = turn_frames earlier ++ frame_in t.frame
 
 -- ---- which turns are idle
 
@@ -59,29 +59,29 @@ framed_by (result ∷ results) = false ∷ framed_by results
 -- ---- what a turn calls for
 
 -- the first step is by this event, and all later ones are by answers
-abbrev pub IsExchange : session.Event → List Step → Type 0
+abbrev pub IsExchange : session.Event → List SessionStep → Type 0
 IsExchange first [] = ⊥
 IsExchange first (s ∷ []) = s.event ≡ first
 IsExchange first (s ∷ t ∷ earlier) = (is_answer s.event ≡ true) × IsExchange first (t ∷ earlier)
 
 -- a frame that gave a message calls for an exchange by it; every other frame for nothing
-abbrev pub IsForTaken : Taken → List Step → Type 0
+abbrev pub IsForTaken : Taken → List SessionStep → Type 0
 IsForTaken takens.Nothing steps = steps ≡ []
 IsForTaken (takens.Ack kind number bytes) steps = steps ≡ []
 IsForTaken (takens.Owed kind number bytes) steps = steps ≡ []
 IsForTaken (takens.Whole message) steps = IsExchange (event.Whole message) steps
 
 -- an idle moment calls for one by the loaded front where a feed waits, else for nothing
-abbrev pub IsForIdle : Bool → List Step → Type 0
+abbrev pub IsForIdle : Bool → List SessionStep → Type 0
 IsForIdle true steps = (front : ℕ) × IsExchange (event.Idle front) steps
 IsForIdle false steps = steps ≡ []
 
-abbrev pub IsFor : Machine → Option FrameParts → Taken → List Step → Type 0
+abbrev pub IsFor : Machine → Option FrameParts → Taken → List SessionStep → Type 0
 IsFor m (Some f) given steps = IsForTaken given steps
 IsFor m None given steps = (given ≡ takens.Nothing) × IsForIdle (waits m.feed) steps
 
 -- an event that came last, for which nothing was put and nothing wanted, as memory ran out
-abbrev pub undone : Option session.Event → List Step
+abbrev pub undone : Option session.Event → List SessionStep
 undone None = []
 undone (Some e) = record { event = e; puts = []; want = None } ∷ []
 

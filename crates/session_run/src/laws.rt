@@ -10,7 +10,7 @@ ghost use Rattle.session_core.specs.Fronts.{fronts_of, looks_of, stored_of, Rise
 ghost use Rattle.session_core.specs.Right.{AreRight};
 ghost use Rattle.repl_messages.specs.declared.request.Version.{Version};
 ghost use Rattle.session_core.specs.State.{Machine, new_machine};
-ghost use Rattle.session_core.specs.Steps.{Step, Steps, Leads};
+ghost use Rattle.session_core.specs.Steps.{SessionStep, Steps, Leads};
 ghost use Rattle.session_core.specs.declared.event.Event.{Event};
 ghost use Rattle.sync_syntax.specs.declared.tree.Program.{Program};
 ghost use Rattle.write_path.specs.Reads.{Reads, IsLaterThanAll};
@@ -33,52 +33,52 @@ ghost use Rattle.sg_outside.specs.declared.wire.Got.{Got};
 /// named don't fall for any client, and none is above that of a board that comes after all that were read.
 pub fn answers()
     ensures right { (start now : Moment) (user : List ℕ) (program : Program) (strict : Bool)
-        (steps : List Step) (h : List Entry)
+        (steps : List SessionStep) (h : List Entry)
         → AreAnswered start user program strict steps now → IsLaterThanAll now.read h
         → AreRight h user program strict steps }
     ensures reads { (start now : Moment) (user : List ℕ) (program : Program) (strict : Bool)
-        (steps : List Step)
+        (steps : List SessionStep)
         → AreAnswered start user program strict steps now
         → Reads start.read now.read start.lowest now.lowest }
     ensures rise { (start now : Moment) (user : List ℕ) (program : Program) (strict : Bool)
-        (steps : List Step)
+        (steps : List SessionStep)
         → AreAnswered start user program strict steps now
         → RiseBetween start.lowest (fronts_of steps) now.lowest }
     ensures recorded { (start now : Moment) (user : List ℕ) (program : Program) (strict : Bool)
-        (steps : List Step)
+        (steps : List SessionStep)
         → AreAnswered start user program strict steps now
         → now.recorded ≡ recorded_by start.recorded steps }
     ensures at_length { (start now : Moment) (user : List ℕ) (program : Program) (strict : Bool)
-        (steps : List Step)
+        (steps : List SessionStep)
         → AreAnswered start user program strict steps now → AreAtLength start.recorded steps }
     ensures own { (start now : Moment) (user : List ℕ) (program : Program) (strict : Bool)
-        (steps : List Step)
+        (steps : List SessionStep)
         → AreAnswered start user program strict steps now
         → (added : List Waiting) × (now.own ≡ added ++ start.own)
         × (map (λ (w : Waiting). w.number) added ≡ reverse (stored_of steps))
         × AreJudged program user start.read now.read added }
     ensures looks { (start now : Moment) (user : List ℕ) (program : Program) (strict : Bool)
-        (steps : List Step)
+        (steps : List SessionStep)
         → AreAnswered start user program strict steps now
         → AreLooksAt start.read (looks_of steps) now.read }
     ensures fronts { (start now : Moment) (user : List ℕ) (program : Program) (strict : Bool)
-        (steps : List Step)
+        (steps : List SessionStep)
         → AreAnswered start user program strict steps now
         → RiseBetween start.lowest (look_fronts (looks_of steps)) now.lowest }
     ensures within { (start now : Moment) (user : List ℕ) (program : Program) (strict : Bool)
-        (steps : List Step) (h : List Entry)
+        (steps : List SessionStep) (h : List Entry)
         → AreAnswered start user program strict steps now → IsLaterThanAll now.read h
         → AreWithin (length h) (look_fronts (looks_of steps)) }
     ensures checkpoints { (start now : Moment) (user : List ℕ) (program : Program) (strict : Bool)
-        (steps : List Step) (side : List SideEntry)
+        (steps : List SessionStep) (side : List SideEntry)
         → AreAnswered start user program strict steps now → start.checkpoints ≡ Some side
         → (left : List SideEntry) × (now.checkpoints ≡ Some left)
         × AreOfStore user side steps left }
     ensures numbers { (start now : Moment) (user : List ℕ) (program : Program) (strict : Bool)
-        (steps : List Step)
+        (steps : List SessionStep)
         → AreAnswered start user program strict steps now → AreNamedRising (named_of steps) }
     ensures closing { (start now : Moment) (user : List ℕ) (program : Program) (strict : Bool)
-        (steps : List Step) (board : BoardState)
+        (steps : List SessionStep) (board : BoardState)
         → AreAnswered start user program strict steps now → IsAfterAll now.read board
         → AreNamedWithin user board.side (named_of steps) }
 {
@@ -94,7 +94,7 @@ pub fn answers()
 /// on offer, or one that says of such a row that its document is no longer shown.
 pub fn own_bodies()
     ensures { (h : List Entry) (user : List ℕ) (version : Version) (program : Program)
-        (strict : Bool) (earlier : List Step) (before : Machine) (s : Step) (after : Machine)
+        (strict : Bool) (earlier : List SessionStep) (before : Machine) (s : SessionStep) (after : Machine)
         → Leads (new_machine user version strict) earlier before → Steps before s after
         → AreRight h user program strict (s ∷ earlier) → HasOwnBodies h user before s }
 {

@@ -6,7 +6,7 @@ ghost use Rattle.session_core.specs.Conduct.{WantsFor, is_answer, feed_front};
 ghost use Rattle.session_core.specs.declared.event.Event.{Event};
 ghost use Rattle.session_core.specs.declared.replies.Awaited.{Awaited};
 ghost use Rattle.session_core.specs.State.{Awaits, IsAwaited};
-ghost use Rattle.session_run.specs.Answered.{moment, HasRead, IsAnswered, IsSet};
+ghost use Rattle.session_run.specs.Answered.{moment, HasReadGround, IsEventAnswered, IsSet};
 ghost use Rattle.session_run.specs.Spent.{spent_by, looks_for, SpendsFor};
 ghost use Rattle.write_path.specs.Origins.{Stays};
 
@@ -29,7 +29,7 @@ pub(crate) fn read<G: Ground>(
     requires wants { WantsFor core.now.feed core.now.pending (Some want) }
     requires front { feed_front core.now.feed ≤ G.lowest_front ground.old }
     requires draws { 2 * looks_for want ≤ G.left ground.old }
-    ensures answered { IfOk result (λ event. IsAnswered
+    ensures answered { IfOk result (λ event. IsEventAnswered
         (moment (G.read ground.old) (G.lowest_front ground.old) (G.recorded ground.old)
         (G.checkpoints ground.old) (G.own ground.old))
         core.now.user program.now core.now.strict (Some want) event
@@ -37,7 +37,7 @@ pub(crate) fn read<G: Ground>(
         (G.checkpoints ground.new) (G.own ground.new))) }
     ensures awaited { IfOk result (λ event. Awaits core.now event) }
     ensures answer { IfOk result (λ event. is_answer event ≡ true) }
-    ensures err { OnErr result (HasRead
+    ensures err { OnErr result (HasReadGround
         (moment (G.read ground.old) (G.lowest_front ground.old) (G.recorded ground.old)
         (G.checkpoints ground.old) (G.own ground.old))
         (moment (G.read ground.new) (G.lowest_front ground.new) (G.recorded ground.new)
@@ -102,7 +102,7 @@ fn set<G: Ground>(
         (moment (G.read ground.new) (G.lowest_front ground.new) (G.recorded ground.new)
         (G.checkpoints ground.new) (G.own ground.new))) }
     ensures awaited { IfOk result (λ answer. IsAwaited (Event.Set answer) Awaited.Set) }
-    ensures err { OnErr result (HasRead
+    ensures err { OnErr result (HasReadGround
         (moment (G.read ground.old) (G.lowest_front ground.old) (G.recorded ground.old)
         (G.checkpoints ground.old) (G.own ground.old))
         (moment (G.read ground.new) (G.lowest_front ground.new) (G.recorded ground.new)

@@ -11,10 +11,10 @@ ghost use Rattle.session_core.specs.declared.machine.Pending.{Pending};
 ghost use Rattle.session_core.specs.Conduct.{feed_front, due_at, due_with, WantsFor, most_answers, is_answer, AreWithin};
 ghost use Rattle.session_core.specs.Fronts.{look_of, stored_by, front_by};
 ghost use Rattle.session_core.specs.State.{Awaits, new_machine, most_puts, most_requests};
-ghost use Rattle.session_core.specs.Steps.{Step};
+ghost use Rattle.session_core.specs.Steps.{SessionStep};
 ghost use Rattle.session_run.specs.declared.ended.End.{End};
 ghost use Rattle.session_run.specs.declared.serve.Setup.{Setup};
-ghost use Rattle.session_run.specs.Answered.{Moment, moment, HasRead, IsAnswered};
+ghost use Rattle.session_run.specs.Answered.{Moment, moment, HasReadGround, IsEventAnswered};
 ghost use Rattle.session_run.specs.inner.Held.{IsAtRest, IsReady, Makes, Halts, Conversed, Conversing, IsEndOf, Holds, GoesOn, Takes, Runs, RunsOn};
 ghost use Rattle.session_run.specs.inner.Putting.{MayReply};
 ghost use Rattle.session_run.specs.Spent.{most_looks, spent_by, looks_for, IsMet, CanLook, Draws};
@@ -133,7 +133,7 @@ impl Session {
         requires front { feed_front self.old.core.feed ≤ G.lowest_front ground.old }
         requires left { self.old.listing.spent + looks_for want ≤ most_looks }
         requires looks { CanLook (G.left ground.old) self.old.listing.spent }
-        ensures answered { IfOk result (λ event. IsAnswered
+        ensures answered { IfOk result (λ event. IsEventAnswered
             (moment (G.read ground.old) (G.lowest_front ground.old)
             (G.recorded ground.old) (G.checkpoints ground.old) (G.own ground.old))
             self.old.core.user
@@ -148,7 +148,7 @@ impl Session {
             ≡ self.old.listing.stored ++ stored_by event) }
         ensures spent { IfOk result (λ event. self.new.listing.spent
             ≡ self.old.listing.spent + spent_by event) }
-        ensures read { OnErr result (HasRead
+        ensures read { OnErr result (HasReadGround
             (moment (G.read ground.old) (G.lowest_front ground.old)
             (G.recorded ground.old) (G.checkpoints ground.old) (G.own ground.old))
             (moment (G.read ground.new) (G.lowest_front ground.new)
@@ -189,21 +189,21 @@ impl Session {
         requires seen { AreWithin (G.lowest_front ground.old) (front_by event) }
         requires looks { CanLook (G.left ground.old) self.old.listing.spent }
         ensures ok { (before : Moment)
-            → IsAnswered before self.old.core.user program.now self.old.core.strict None event
+            → IsEventAnswered before self.old.core.user program.now self.old.core.strict None event
             (moment (G.read ground.old) (G.lowest_front ground.old)
             (G.recorded ground.old) (G.checkpoints ground.old) (G.own ground.old))
-            → IfOk result (λ met. (steps : List Step) × (want : Option Want)
+            → IfOk result (λ met. (steps : List SessionStep) × (want : Option Want)
             × Conversing program.now self.old self.new event before
             (moment (G.read ground.new) (G.lowest_front ground.new)
             (G.recorded ground.new) (G.checkpoints ground.new) (G.own ground.new)) want steps
             × IsMet met want self.new.listing.spent) }
         ensures halted { (before : Moment)
-            → IsAnswered before self.old.core.user program.now self.old.core.strict None event
+            → IsEventAnswered before self.old.core.user program.now self.old.core.strict None event
             (moment (G.read ground.old) (G.lowest_front ground.old)
             (G.recorded ground.old) (G.checkpoints ground.old) (G.own ground.old))
-            → OnErr result ((steps : List Step) × (halted : Option Event) × (now : Moment)
+            → OnErr result ((steps : List SessionStep) × (halted : Option Event) × (now : Moment)
             × Conversed program.now self.old self.new event before now steps halted
-            × HasRead now
+            × HasReadGround now
             (moment (G.read ground.new) (G.lowest_front ground.new)
             (G.recorded ground.new) (G.checkpoints ground.new) (G.own ground.new))) }
         ensures draws { Draws (G.origin ground.old) (G.origin ground.new) (G.left ground.old)
@@ -247,7 +247,7 @@ impl Session {
         requires seen { AreWithin (G.lowest_front ground.old) (front_by event) }
         requires looks { CanLook (G.left ground.old) self.old.listing.spent }
         ensures goes { (before : Moment)
-            → IsAnswered before self.old.core.user program.now self.old.core.strict None event
+            → IsEventAnswered before self.old.core.user program.now self.old.core.strict None event
             (moment (G.read ground.old) (G.lowest_front ground.old)
             (G.recorded ground.old) (G.checkpoints ground.old) (G.own ground.old))
             → GoesOn program.now self.old self.new (Some event) before

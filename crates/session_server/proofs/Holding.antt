@@ -6,7 +6,7 @@ use Rattle.sg_lines.specs.Line.{TraceRecord}
 use Rattle.sg_history.specs.declared.room.RoomFor.{RoomFor}
 use Rattle.sg_history.specs.declared.book.Waiting.{Waiting}
 use Rattle.sg_history.specs.Board.{BoardState, IsAfterAll}
-use Rattle.seq_gate.specs.Passes.{first_known, joined, share, split_from, split_off}
+use Rattle.seq_gate.specs.Passes.{first_pass, joined_passes, share, split_from, split_off}
 use Rattle.seq_gate.specs.Views.{PassView}
 use Rattle.seq_gate.specs.declared.known.Known.{Known}
 use Rattle.gateway_config.specs.declared.config.Config.{Config}
@@ -38,7 +38,7 @@ module _ (opened : BoardState) where
 
   -- ---- at first
 
-  pub kept_first : (gate : TableId) (pass : PassView) → pass.gate ≡ gate → pass.knows ≡ first_known opened → IsKept opened gate pass 0 None 0
+  pub kept_first : (gate : TableId) (pass : PassView) → pass.gate ≡ gate → pass.knows ≡ first_pass opened → IsKept opened gate pass 0 None 0
   kept_first gate pass here first = record {
     here = here;
     rests = subst (λ (k : Known). Rests k) (sym first) (record { held = refl; rooms = refl });
@@ -49,7 +49,7 @@ module _ (opened : BoardState) where
     spent = λ is. absurd cc;
   }
 
-  pub holds_first : (config : Config) (p : Known) → p ≡ first_known opened → Holds opened config p []
+  pub holds_first : (config : Config) (p : Known) → p ≡ first_pass opened → Holds opened config p []
   holds_first config p first = record { calls = []; are = tt; own = ap (λ (k : Known). k.own) first; later = λ h all. tt; after = λ b all. tt }
 
   -- ---- a job is made
@@ -95,7 +95,7 @@ module _ (opened : BoardState) where
 
   -- ---- a job is joined
 
-  pub kept_join : (gate : TableId) (pass now other : PassView) (out out_now callers : ℕ) (refused : Option NoJob) → IsKept opened gate pass out refused callers → now.gate ≡ pass.gate → now.knows ≡ joined pass.knows other.knows → Rests other.knows → share other.knows ≡ 2 ^ 32
+  pub kept_join : (gate : TableId) (pass now other : PassView) (out out_now callers : ℕ) (refused : Option NoJob) → IsKept opened gate pass out refused callers → now.gate ≡ pass.gate → now.knows ≡ joined_passes pass.knows other.knows → Rests other.knows → share other.knows ≡ 2 ^ 32
       → out ≡ out_now + 1 → IsKept opened gate now out_now refused callers
   kept_join gate pass now other out out_now callers refused kept gates is rests all lowered = record {
     here = gates ∙ kept.here;
@@ -109,7 +109,7 @@ module _ (opened : BoardState) where
   }
 
   pub holds_join : (config its_config : Config) (p now : Known) (before after : Shared) (other : PassView) (line : Option LinkRecord) (trace : Option TraceRecord) (traces : List (Option TraceRecord))
-      → Holds opened config p traces → other.knows ≡ after.knows → now ≡ joined p other.knows → IsSplit opened before.knows → IsCallerDone its_config before line after trace → its_config ≡ config → line ≡ Some no_line → Holds opened config now (trace ∷ traces)
+      → Holds opened config p traces → other.knows ≡ after.knows → now ≡ joined_passes p other.knows → IsSplit opened before.knows → IsCallerDone its_config before line after trace → its_config ≡ config → line ≡ Some no_line → Holds opened config now (trace ∷ traces)
   holds_join config its_config p now before after other line trace traces was same is split done config_is fresh =
       let left : IsCallLeft config before.knows trace other.knows =
       subst (λ (k : Known). IsCallLeft config before.knows trace k) (sym same) (subst (λ (c : Config). IsCallLeft c before.knows trace after.knows) config_is (done.left fresh)) in

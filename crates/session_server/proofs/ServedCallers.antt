@@ -6,7 +6,7 @@ use Rattle.sg_history.specs.declared.book.Waiting.{Waiting}
 use Rattle.sg_history.specs.declared.entries.Entry.{Entry}
 use Rattle.sg_history.specs.Board.{After, BoardState, IsAfterAll}
 use Rattle.seq_gate.specs.Counts.{numbers, times, total}
-use Rattle.seq_gate.specs.Passes.{Closes, owed}
+use Rattle.seq_gate.specs.Passes.{Closes, owed_count}
 use Rattle.seq_gate.specs.declared.known.Known.{Known}
 use Rattle.gateway_config.specs.declared.config.Config.{Config}
 use Rattle.sync_syntax.specs.declared.tree.Program.{Program}
@@ -117,7 +117,7 @@ module _ (reads : WasReadLaws) (on : JudgedLater) (sessions : SessionLaws) (open
   pub served_all : (ts : List (Option TraceRecord)) → Holds opened config pass ts → IsServedAll config board ts
   served_all ts holds =
       let later = holds.later h later_log in
-      let owners : (k : ℕ) → times k (numbers pass.own) ≡ owed (length opened.log) board k = λ k. closes.owners k ∙ ap (λ (n : ℕ). owed n board k) opening_is in
+      let owners : (k : ℕ) → times k (numbers pass.own) ≡ owed_count (length opened.log) board k = λ k. closes.owners k ∙ ap (λ (n : ℕ). owed_count n board k) opening_is in
       let judged : AllJudgedIn h program pass.own = subst (λ (ws : List Waiting). AllJudgedIn h program ws) (sym holds.own) (all_own ts holds.calls holds.are later) in
       record {
         pending = closes.pending;

@@ -13,7 +13,7 @@ use Rattle.ws_door.specs.declared.answer.Upgrade.{Upgrade}
 use Rattle.ws_door.specs.declared.heads.HeadFault.{HeadFault}
 use Rattle.ws_door.specs.Greetings.{answer_text, refusal_text}
 use Rattle.ws_door.specs.Heads.{head_in}
-use Rattle.ws_door.specs.Upgrades.{IsAnswer}
+use Rattle.ws_door.specs.Upgrades.{IsUpgradeAnswer}
 use Rattle.session_run.specs.declared.ended.Ended.{Ended}
 use Rattle.session_threads.specs.Played.{IsSessionOf}
 
@@ -24,11 +24,11 @@ pub record GaveNoHead (line : LinkRecord) : Type 0 where
   pub taken : line.taken ≡ []
 
 -- the line gave a head, and took what refuses it
-pub record IsRefused (config : Config) (line : LinkRecord) : Type 0 where
+pub record IsRefusedCaller (config : Config) (line : LinkRecord) : Type 0 where
   pub head : List ℕ
   pub why : Refused
   pub read : head_in line.read ≡ Some (Ok head)
-  pub answer : IsAnswer head config (Err why)
+  pub answer : IsUpgradeAnswer head config (Err why)
   pub taken : line.taken ≡ refusal_text why
   pub gave : line.gave ≡ gave.Done ∷ []
 
@@ -37,7 +37,7 @@ pub record IsCut (config : Config) (line : LinkRecord) : Type 0 where
   pub head : List ℕ
   pub reply : Result Upgrade Refused
   pub read : head_in line.read ≡ Some (Ok head)
-  pub answer : IsAnswer head config reply
+  pub answer : IsUpgradeAnswer head config reply
   pub taken : Takes [] (answer_text reply) gave.Failed line.taken
   pub gave : line.gave ≡ gave.Failed ∷ []
 
@@ -45,7 +45,7 @@ pub record IsCut (config : Config) (line : LinkRecord) : Type 0 where
 pub record IsUpgraded (config : Config) (line : LinkRecord) (upgrade : Upgrade) : Type 0 where
   pub head : List ℕ
   pub read : head_in line.read ≡ Some (Ok head)
-  pub answer : IsAnswer head config (Ok upgrade)
+  pub answer : IsUpgradeAnswer head config (Ok upgrade)
   pub taken : line.taken ≡ upgrade.reply
   pub gave : line.gave ≡ gave.Done ∷ []
 
@@ -55,7 +55,7 @@ IsGivenUp config line = (line.taken ≡ []) ⊎ ((upgrade : Upgrade) × IsUpgrad
 
 -- a caller whose line has no socket
 abbrev pub HasNoSession : Config → LinkRecord → Type 0
-HasNoSession config line = GaveNoHead line ⊎ (IsRefused config line ⊎ (IsCut config line ⊎ IsGivenUp config line))
+HasNoSession config line = GaveNoHead line ⊎ (IsRefusedCaller config line ⊎ (IsCut config line ⊎ IsGivenUp config line))
 
 -- a caller whose line took the upgrade and has a socket, over which a session of the head's user, in the head's version, was served over
 -- the board; these are the numbers that it stored

@@ -10,7 +10,7 @@ use Rattle.sg_history.specs.Board.{BoardState}
 use Rattle.sg_history.specs.Book.{book_of}
 use Rattle.sg_history.specs.History.{Extends}
 use Rattle.seq_gate.specs.Counts.{times, total}
-use Rattle.seq_gate.specs.Passes.{owed}
+use Rattle.seq_gate.specs.Passes.{owed_count}
 use Rattle.gateway_config.specs.declared.config.Config.{Config}
 use Rattle.doc_board.specs.JudgedWrites.{IsJudgedWrite}
 use Rattle.gateway_server.specs.declared.stop.DoorEnd.{DoorEnd}
@@ -31,7 +31,7 @@ pub record IsServedAll (config : Config) (board : BoardState) (traces : List (Op
   -- for each caller the numbers that its session stored
   pub stored : List (List ℕ)
   pub callers : AllPairs (IsTraceOf board config) traces stored
-  pub once : (k : ℕ) → total (times k) stored ≡ owed (length opening) board k
+  pub once : (k : ℕ) → total (times k) stored ≡ owed_count (length opening) board k
   pub judged : (k : ℕ) (w : Write) → book_of board.log k ≡ Some (entry.Write w) → IsJudgedWrite (arc_value config.program) (book_of board.log) k w
 
 -- most callers to whom draws of sequences are handed out

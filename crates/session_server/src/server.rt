@@ -2,7 +2,7 @@
 
 ghost use Rattle.std.proofs.Common.{◌∙◌};
 ghost use Rattle.std.specs.Prelude.{◌≡◌, ◌≤◌, ◌+◌, ◌*◌, ◌^◌, [], None, Some, length, map, refl, slice_get};
-ghost use Rattle.seq_gate.specs.Passes.{first_known, share};
+ghost use Rattle.seq_gate.specs.Passes.{first_pass, share};
 ghost use Rattle.write_path.specs.Shared.{Rests};
 ghost use Rattle.write_path.specs.Shelf.{shelf_state};
 ghost use Rattle.session_server.specs.inner.Lines.{lines_in, AreFresh};
@@ -57,7 +57,7 @@ impl<'g, R: Wait + Sync, L: Line + Send> Server<'g, R, L> {
         pass: Pass<Shelf>,
     ) -> Server<'g, R, L>
         requires here { pass.gate ≡ gate.now }
-        requires first { pass.knows ≡ first_known (shelf_state opened.value) }
+        requires first { pass.knows ≡ first_pass (shelf_state opened.value) }
         ensures gate { result.gate.now ≡ gate.now }
         ensures config { result.config.now ≡ config.now }
         ensures opened { result.opened.value ≡ opened.value }

@@ -1,7 +1,7 @@
 //! The whole: the opening, the callers, and the gate that is closed behind them.
 
 ghost use Rattle.std.specs.Prelude.{◌≡◌, ◌<◌, ◌≤◌, []};
-ghost use Rattle.seq_gate.specs.Passes.{first_known};
+ghost use Rattle.seq_gate.specs.Passes.{first_pass};
 ghost use Rattle.write_path.specs.Shelf.{shelf_state};
 ghost use Rattle.session_threads.specs.Opening.{IsOpening};
 ghost use Rattle.session_server.specs.Served.{ServesIfRecorded};
@@ -29,7 +29,7 @@ fn serve_behind<R: Threads + Wait + Sync, D: Door>(
     door: &mut D,
 ) -> DoorEnd
     requires here { pass.gate ≡ gate }
-    requires first { pass.knows ≡ first_known (shelf_state opened.value) }
+    requires first { pass.knows ≡ first_pass (shelf_state opened.value) }
     requires opening { IsOpening config.now.roles config.now.users opened.value.board.log }
     requires bytes { (shelf_state opened.value).bytes ≡ 0 }
     ensures failed { result ≡ DoorEnd.Failed → D.faults door.old < D.faults door.new }

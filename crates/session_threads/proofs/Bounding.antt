@@ -24,12 +24,12 @@ use Rattle.session_core.specs.declared.act.Want.{Want}
 use Rattle.session_core.specs.declared.act.Want.TheVariants as want
 use Rattle.session_core.specs.declared.event.Event.{Event}
 use Rattle.session_core.specs.declared.event.Event.TheVariants as event
-use Rattle.session_core.specs.Steps.{Step, wanted_after}
-use Rattle.session_run.specs.Answered.{AreAnswered, IsAnswered, Moment}
+use Rattle.session_core.specs.Steps.{SessionStep, wanted_after}
+use Rattle.session_run.specs.Answered.{AreAnswered, IsEventAnswered, Moment}
 use Rattle.session_threads.specs.declared.played.LineOutcome.{LineOutcome}
 use Rattle.session_threads.specs.declared.played.LineOutcome.TheVariants.{Plain}
-use Rattle.session_threads.specs.Bounds.{AreBoundedLines, AreBoundedSteps, IsBounded, IsBoundedEvent}
-use Rattle.session_threads.specs.OwnRevisions.{revision_of}
+use Rattle.session_threads.specs.Bounds.{AreBoundedLines, AreBoundedSteps, IsOutcomeBounded, IsBoundedEvent}
+use Rattle.session_threads.specs.OwnRevisions.{own_revision}
 use Rattle.session_threads.specs.inner.Runs.{AreLinesRun, IsLineRun}
 use Rattle.session_threads.proofs.Reading.{WasReadLaws, after_one, by_length, one_in_first, one_in_second, was_one}
 use Rattle.session_threads.proofs.Lining.{line_reads, lines_read}
@@ -61,7 +61,7 @@ log_full board bytes at entries sum h = by (either (nat_le 3999999 (entries_on b
     by (inr is) = inr (ltb-true 2147483648 (board.bytes + bytes) is)
 
 -- what is answered adds to the boards that were read
-pub step_read : (before after : Moment) (user : List ℕ) (program : Program) (strict : Bool) (wanted : Option Want) (e : Event) → IsAnswered before user program strict wanted e after → (more : List BoardState) × (after.read ≡ more ++ before.read)
+pub step_read : (before after : Moment) (user : List ℕ) (program : Program) (strict : Bool) (wanted : Option Want) (e : Event) → IsEventAnswered before user program strict wanted e after → (more : List BoardState) × (after.read ≡ more ++ before.read)
 step_read before after user program strict None (event.Whole message) is = ([], ap (λ (m : Moment). m.read) is)
 step_read before after user program strict None (event.Idle front) is = ([], is.read)
 step_read before after user program strict None (event.Fed answer) is = absurd is
@@ -139,7 +139,7 @@ module _ (first b : BoardState) (none : first.bytes ≡ 0) (pending : b.pending 
     roomed before after low high c reads one was = after_one before first c one (laws.before before after low high c reads was)
 
     bounded_command : (before after : List BoardState) (low high : ℕ) (own_before own_after : List Waiting) (recorded : Option ℕ) (e : Entry) (answer : Outcome)
-        → Reads before after low high → IsOneOf before first → IsAfterAll after b → IsCommanded before after own_before own_after recorded e answer → IsBounded b.log answer
+        → Reads before after low high → IsOneOf before first → IsAfterAll after b → IsCommanded before after own_before own_after recorded e answer → IsOutcomeBounded b.log answer
     bounded_command before after low high own_before own_after recorded e (outcome.Full503 at places) reads one all is =
         places_in is.room.board at (after_one after is.room.board b (was_one before after is.room.board is.room.was_read) all) (omega (arith, is.front)) (full_places is.room.board 0 places is.room.limits)
     bounded_command before after low high own_before own_after recorded e (outcome.LogFull509 at entries sum) reads one all is =
@@ -173,7 +173,7 @@ module _ (first b : BoardState) (none : first.bytes ≡ 0) (pending : b.pending 
         by_length judged room (inr (after_one (first_was.added ++ before) judged room (one_in_first first_was.added before judged first_was.one) later))
 
     bounded_revision : (before after : List BoardState) (low high : ℕ) (own_before own_after : List Waiting) (recorded : Option ℕ) (program : Program) (strict : Bool) (by : Option (List ℕ)) (r : Revision) (answer : Outcome)
-        → Reads before after low high → IsOneOf before first → IsAfterAll after b → IsProposed before after own_before own_after recorded program strict by r answer → IsBounded b.log answer
+        → Reads before after low high → IsOneOf before first → IsAfterAll after b → IsProposed before after own_before own_after recorded program strict by r answer → IsOutcomeBounded b.log answer
     bounded_revision before after low high own_before own_after recorded program strict by r (outcome.Full503 at places) reads one all is =
         places_in is.room.board at (after_one after is.room.board b (was_one before after is.room.board is.room.was_read) all)
         (omega (arith, is.judged.outcome.0.front, judged_first before is.middle after low high is.judged.board is.room.board reads is.judged_first is.room_after)) (full_places is.room.board (bytes_of r) places is.room.limits)
@@ -190,10 +190,10 @@ module _ (first b : BoardState) (none : first.bytes ≡ 0) (pending : b.pending 
     bounded_revision before after low high own_before own_after recorded program strict by r (outcome.Denied403 at rule) reads one all is = tt
     bounded_revision before after low high own_before own_after recorded program strict by r outcome.Memory507 reads one all is = tt
 
-    bounded_line : (program : Program) (strict : Bool) (m n : Moment) (l : AdminLine) (answer : Outcome) → IsOneOf m.read first → IsAfterAll n.read b → IsLineRun program strict m l answer n → IsBounded b.log answer
+    bounded_line : (program : Program) (strict : Bool) (m n : Moment) (l : AdminLine) (answer : Outcome) → IsOneOf m.read first → IsAfterAll n.read b → IsLineRun program strict m l answer n → IsOutcomeBounded b.log answer
     bounded_line program strict m n (line.Command c) answer one all run = bounded_command m.read n.read m.lowest n.lowest m.own n.own m.recorded (entry_of c) answer run.reads one all run.commanded
     bounded_line program strict m n (line.Doc doc parent deleted body) answer one all run =
-        bounded_revision m.read n.read m.lowest n.lowest m.own n.own m.recorded program strict None (revision_of doc parent deleted body) answer run.reads one all run.proposed
+        bounded_revision m.read n.read m.lowest n.lowest m.own n.own m.recorded program strict None (own_revision doc parent deleted body) answer run.reads one all run.proposed
 
     after_before : (more read : List BoardState) → IsAfterAll (more ++ read) b → IsAfterAll read b
     after_before [] read all = all
@@ -217,14 +217,14 @@ module _ (first b : BoardState) (none : first.bytes ≡ 0) (pending : b.pending 
 
     -- ---- what is answered to a session
 
-    steps_read : (start now : Moment) (user : List ℕ) (program : Program) (strict : Bool) (steps : List Step) → AreAnswered start user program strict steps now → (more : List BoardState) × (now.read ≡ more ++ start.read)
+    steps_read : (start now : Moment) (user : List ℕ) (program : Program) (strict : Bool) (steps : List SessionStep) → AreAnswered start user program strict steps now → (more : List BoardState) × (now.read ≡ more ++ start.read)
     steps_read start now user program strict [] is = ([], ap (λ (m : Moment). m.read) is)
     steps_read start now user program strict (s ∷ earlier) (between, before, is) =
         let first_read = steps_read start between user program strict earlier before in
         let more = step_read between now user program strict (wanted_after earlier) s.event is in
         (more.0 ++ first_read.0, more.1 ∙ ap (λ (l : List BoardState). more.0 ++ l) first_read.1 ∙ sym (append_assoc more.0 first_read.0 start.read))
 
-    bounded_event : (before after : Moment) (user : List ℕ) (program : Program) (strict : Bool) (wanted : Option Want) (e : Event) → IsOneOf before.read first → IsAfterAll after.read b → IsAnswered before user program strict wanted e after → IsBoundedEvent b.log e
+    bounded_event : (before after : Moment) (user : List ℕ) (program : Program) (strict : Bool) (wanted : Option Want) (e : Event) → IsOneOf before.read first → IsAfterAll after.read b → IsEventAnswered before user program strict wanted e after → IsBoundedEvent b.log e
     bounded_event before after user program strict wanted (event.Whole message) one all is = tt
     bounded_event before after user program strict wanted (event.Idle front) one all is = tt
     bounded_event before after user program strict wanted (event.Fed answer) one all is = tt
@@ -241,13 +241,13 @@ module _ (first b : BoardState) (none : first.bytes ≡ 0) (pending : b.pending 
     bounded_event before after user program strict (Some (want.Propose r)) (event.Judged answer) one all is =
         bounded_revision before.read after.read before.lowest after.lowest before.own after.own before.recorded program (strict || r.noconflicts) (Some user) r answer is.stores.reads one all is.stores.proposed
 
-    pub bounded_steps : (start now : Moment) (user : List ℕ) (program : Program) (strict : Bool) (steps : List Step) → IsOneOf start.read first → IsAfterAll now.read b → AreAnswered start user program strict steps now → AreBoundedSteps b.log steps
+    pub bounded_steps : (start now : Moment) (user : List ℕ) (program : Program) (strict : Bool) (steps : List SessionStep) → IsOneOf start.read first → IsAfterAll now.read b → AreAnswered start user program strict steps now → AreBoundedSteps b.log steps
     bounded_steps start now user program strict [] one all is = tt
     bounded_steps start now user program strict (s ∷ earlier) one all (between, before, is) = (
       bounded_event between now user program strict (wanted_after earlier) s.event (one_then start.read between.read (steps_read start between user program strict earlier before) one) all is,
       bounded_steps start between user program strict earlier one (after_then between.read now.read (step_read between now user program strict (wanted_after earlier) s.event is) all) before,
     )
 
-pub bounded_parts : (h : List Entry) (steps others : List Step) → AreBoundedSteps h (steps ++ others) → AreBoundedSteps h steps × AreBoundedSteps h others
+pub bounded_parts : (h : List Entry) (steps others : List SessionStep) → AreBoundedSteps h (steps ++ others) → AreBoundedSteps h steps × AreBoundedSteps h others
 bounded_parts h [] others all = (tt, all)
 bounded_parts h (s ∷ steps) others all = let rest = bounded_parts h steps others all.1 in ((all.0, rest.0), rest.1)

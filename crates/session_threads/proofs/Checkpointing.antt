@@ -6,15 +6,15 @@ use Rattle.sg_history.specs.Board.{After, BoardState, IsAfterAll, SideEntry, Sid
 use Rattle.checkpoint_store.specs.declared.answers.SetAnswer.{SetAnswer}
 use Rattle.checkpoint_store.specs.declared.answers.SetAnswer.TheVariants as set
 use Rattle.checkpoint_store.specs.Answers.{is_full, set_answer}
-use Rattle.checkpoint_store.specs.Checkpoints.{pair_text}
-use Rattle.checkpoint_store.specs.SideMaps.{IsRising, number_at}
+use Rattle.checkpoint_store.specs.Checkpoints.{checkpoint_text}
+use Rattle.checkpoint_store.specs.SideMaps.{IsRising, side_number}
 use Rattle.sync_syntax.specs.declared.tree.Program.{Program}
 use Rattle.session_core.specs.declared.act.Want.{Want}
 use Rattle.session_core.specs.declared.act.Want.TheVariants as want
 use Rattle.session_core.specs.declared.event.Event.{Event}
 use Rattle.session_core.specs.declared.event.Event.TheVariants as event
-use Rattle.session_core.specs.Steps.{Step, wanted_after}
-use Rattle.session_run.specs.Answered.{AreAnswered, IsAnswered, IsSet, Moment}
+use Rattle.session_core.specs.Steps.{SessionStep, wanted_after}
+use Rattle.session_run.specs.Answered.{AreAnswered, IsEventAnswered, IsSet, Moment}
 use Rattle.session_run.specs.Numbers.{number_in}
 use Rattle.session_threads.specs.Bounds.{AreFullSteps, IsFullEvent}
 use Rattle.session_threads.proofs.Bounding.{step_read}
@@ -43,17 +43,17 @@ full_by false true true bytes next kept e = refl
 full_by false true false bytes next kept e = absurd (false≢true (sym (ap says_full e)))
 full_by false false full bytes next kept e = absurd (false≢true (sym (ap says_full e)))
 
-full_there : (side : List SideEntry) (text : List ℕ) (rev : ℕ) (body : List ℕ) → set.Full503 ≡ set_answer side text rev body → is_full (number_at side text) (length side) ≡ true
+full_there : (side : List SideEntry) (text : List ℕ) (rev : ℕ) (body : List ℕ) → set.Full503 ≡ set_answer side text rev body → is_full (side_number side text) (length side) ≡ true
 full_there side text rev body =
-    full_by (nat_lt 4096 (length body)) (nat_eq rev (unwrap_or (number_at side text) 0)) (is_full (number_at side text) (length side)) (length body) (unwrap_or (number_at side text) 0 + 1) (unwrap_or (number_at side text) 0)
+    full_by (nat_lt 4096 (length body)) (nat_eq rev (unwrap_or (side_number side text) 0)) (is_full (side_number side text) (length side)) (length body) (unwrap_or (side_number side text) 0 + 1) (unwrap_or (side_number side text) 0)
 
 module _ (count : RisingCount) where
-  full_later : (found later : List SideEntry) (user client : List ℕ) → IsRising found → SideFollows found later → is_full (number_at found (pair_text user client)) (length found) ≡ true
+  full_later : (found later : List SideEntry) (user client : List ℕ) → IsRising found → SideFollows found later → is_full (side_number found (checkpoint_text user client)) (length found) ≡ true
       → (100000 ≤ length later) ⊎ (18446744073709551615 ≤ number_in later user client)
   full_later found later user client up follows full = by (side_at found text) refl full
     where
       text : List ℕ
-      text = pair_text user client
+      text = checkpoint_text user client
 
       by : (o : Option SideValue) → side_at found text ≡ o → is_full (option_map (λ (v : SideValue). v.number) o) (length found) ≡ true → (100000 ≤ length later) ⊎ (18446744073709551615 ≤ number_in later user client)
       by None there is = inl (le_trans (leb-true 100000 (length found) is) (count found later up follows))
@@ -70,9 +70,9 @@ module _ (count : RisingCount) where
         let sets = is.sets in
         let up : IsRising sets.found.side = subst (λ (side : List SideEntry). IsRising side) sets.sets.same sets.checkpoints.rising in
         let next : After sets.found board = after_one after.read sets.found board (was_one before.read after.read sets.found sets.was_found) behind in
-        full_later sets.found.side board.side user client up next.side (full_there sets.found.side (pair_text user client) rev body (sets.sets.answer not_memory))
+        full_later sets.found.side board.side user client up next.side (full_there sets.found.side (checkpoint_text user client) rev body (sets.sets.answer not_memory))
 
-    full_event : (before after : Moment) (user : List ℕ) (program : Program) (strict : Bool) (wanted : Option Want) (e : Event) → IsAfterAll after.read board → IsAnswered before user program strict wanted e after → IsFullEvent board.side user e wanted
+    full_event : (before after : Moment) (user : List ℕ) (program : Program) (strict : Bool) (wanted : Option Want) (e : Event) → IsAfterAll after.read board → IsEventAnswered before user program strict wanted e after → IsFullEvent board.side user e wanted
     full_event before after user program strict wanted (event.Whole message) behind is = tt
     full_event before after user program strict wanted (event.Idle front) behind is = tt
     full_event before after user program strict wanted (event.Fed answer) behind is = tt
@@ -92,7 +92,7 @@ module _ (count : RisingCount) where
     full_event before after user program strict (Some (want.GetCheckpoint client)) (event.Set set.Full503) behind is = tt
     full_event before after user program strict (Some (want.SetCheckpoint client rev body)) (event.Set set.Full503) behind is = full_set before after user client rev body is behind
 
-    pub full_steps : (start now : Moment) (user : List ℕ) (program : Program) (strict : Bool) (steps : List Step) → IsAfterAll now.read board → AreAnswered start user program strict steps now → AreFullSteps board.side user steps
+    pub full_steps : (start now : Moment) (user : List ℕ) (program : Program) (strict : Bool) (steps : List SessionStep) → IsAfterAll now.read board → AreAnswered start user program strict steps now → AreFullSteps board.side user steps
     full_steps start now user program strict [] behind is = tt
     full_steps start now user program strict (s ∷ earlier) behind (between, before, is) =
         let more = step_read between now user program strict (wanted_after earlier) s.event is in (

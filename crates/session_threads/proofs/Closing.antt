@@ -10,8 +10,8 @@ use Rattle.sg_history.specs.declared.entries.Write.{Write}
 use Rattle.sg_history.specs.Board.{BoardState, IsAfterAll, board_book}
 use Rattle.sg_history.specs.Book.{book_of, entry_or, waiting_at}
 use Rattle.sg_history.specs.History.{Extends}
-use Rattle.seq_gate.specs.Counts.{numbers, once, times, used}
-use Rattle.seq_gate.specs.Passes.{owed}
+use Rattle.seq_gate.specs.Counts.{numbers, count_once, times, count_used}
+use Rattle.seq_gate.specs.Passes.{owed_count}
 use Rattle.gateway_config.specs.declared.config.ConfigRole.{ConfigRole}
 use Rattle.gateway_config.specs.declared.config.ConfigUser.{ConfigUser}
 use Rattle.sync_syntax.specs.declared.tree.Program.{Program}
@@ -63,7 +63,7 @@ found h program k (w ∷ ws) some all = at_first (nat_eq w.number k) refl (λ mo
   where
     at_first : (b : Bool) → nat_eq w.number k ≡ b → (0 < times k (numbers ws) → (v : Waiting) × (v.number ≡ k) × IsJudgedIn h program v) → (v : Waiting) × (v.number ≡ k) × IsJudgedIn h program v
     at_first true is others = (w, eq_number w.number k is, all.0)
-    at_first false is others = others (let none : 0 < once false + times k (numbers ws) = subst (λ (b : Bool). 0 < once b + times k (numbers ws)) is some in omega (arith, none))
+    at_first false is others = others (let none : 0 < count_once false + times k (numbers ws) = subst (λ (b : Bool). 0 < count_once b + times k (numbers ws)) is some in omega (arith, none))
 
 pub later_parts : (xs ys : List BoardState) (h : List Entry) → IsLaterThanAll (xs ++ ys) h → IsLaterThanAll xs h × IsLaterThanAll ys h
 later_parts [] ys h all = (tt, all)
@@ -199,7 +199,7 @@ module _ (reads : WasReadLaws) (sessions : SessionLaws) (opened board : BoardSta
 
 -- all writes of that history were judged, where the entries past the opening are judged ones, each once
 module _ (opened board : BoardState) (program : Program) (begins : Extends opened.log board.log) (pending : board.pending ≡ []) (own : List Waiting) (judged : AllJudgedIn board.log program own)
-    (owners : (k : ℕ) → times k (numbers own) ≡ owed (length opened.log) board k) where
+    (owners : (k : ℕ) → times k (numbers own) ≡ owed_count (length opened.log) board k) where
   abbrev h : List Entry
   h = board.log
 
@@ -223,6 +223,6 @@ module _ (opened board : BoardState) (program : Program) (begins : Extends opene
       by false low = absurd (in_opening opened.log h k w begins (opening_none roles users opened.log opening) (ltb-false (length opened.log) k low) there)
       by true past =
           let one : 0 < times k (numbers own) =
-          omega (arith, owners k ∙ ap (λ (b : Bool). if b then used (board_book board k) else 0) past ∙ ap (λ (o : Option Entry). used o) (book_is k w there)) in
+          omega (arith, owners k ∙ ap (λ (b : Bool). if b then count_used (board_book board k) else 0) past ∙ ap (λ (o : Option Entry). count_used o) (book_is k w there)) in
           let it = found h program k own one judged in
           subst (λ (n : ℕ). IsJudgedWrite program (book_of h) n w) it.1 (it.2.judged w (same_entry k w it.0 it.1 it.2 there))

@@ -11,7 +11,7 @@ use Rattle.sync_syntax.specs.declared.tree.Program.{Program}
 use Rattle.session_core.specs.declared.look.Look.{Look}
 use Rattle.session_core.specs.Conduct.{AreWithin}
 use Rattle.session_core.specs.Fronts.{looks_of}
-use Rattle.session_core.specs.Steps.{Step}
+use Rattle.session_core.specs.Steps.{SessionStep}
 use Rattle.write_path.specs.Reads.{IsLaterThanAll}
 use Rattle.session_run.specs.Answered.{AreAnswered, Moment, look_fronts}
 use Rattle.session_run.specs.Turns.{steps_of, undone}
@@ -21,7 +21,7 @@ use Rattle.session_threads.specs.Played.{Device, IsSessionOf, Leaves}
 use Rattle.session_threads.proofs.Sessions.{later_before}
 
 abbrev pub WithinLaw : Type 0
-WithinLaw = (start now : Moment) (user : List ℕ) (program : Program) (strict : Bool) (steps : List Step) (h : List Entry) → AreAnswered start user program strict steps now → IsLaterThanAll now.read h
+WithinLaw = (start now : Moment) (user : List ℕ) (program : Program) (strict : Bool) (steps : List SessionStep) (h : List Entry) → AreAnswered start user program strict steps now → IsLaterThanAll now.read h
     → AreWithin (length h) (look_fronts (looks_of steps))
 
 one_within : WithinLaw → (board : BoardState) (program : Program) (strict : Bool) (d : Device) (one : Leaves) → IsSessionOf board program strict d one → AreWithin (length board.log) (look_fronts one.ended.looks)

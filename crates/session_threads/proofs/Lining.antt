@@ -27,8 +27,8 @@ use Rattle.write_path.specs.Reads.{IsLaterThanAll, IsOneOf, Reads, WasRead}
 use Rattle.session_run.specs.Answered.{Moment}
 use Rattle.session_threads.specs.declared.played.LineOutcome.{LineOutcome}
 use Rattle.session_threads.specs.declared.played.LineOutcome.TheVariants.{Plain}
-use Rattle.session_threads.specs.Lines.{AreLinesAt, IsLimited, IsLineAt, IsLineBy, IsRevisionBy, sequence_before, sequences_of}
-use Rattle.session_threads.specs.OwnRevisions.{revision_of}
+use Rattle.session_threads.specs.Lines.{AreLinesAt, IsLimited, IsLineAt, IsLineBy, IsRevisionBy, sequence_before, stored_sequences}
+use Rattle.session_threads.specs.OwnRevisions.{own_revision}
 use Rattle.session_threads.specs.inner.Runs.{AreLinesRun, IsLineRun}
 use Rattle.session_threads.proofs.Reading.{IsBy, Newest, WasReadLaws, after_one, by_all, by_kept, by_length, by_newest, later_one, next_newest, read_one, was_one}
 
@@ -131,7 +131,7 @@ module _ (h : List Entry) (program : Program) (strict : Bool) (m n : Moment) (al
 
   pub line_by : (l : AdminLine) (answer : Outcome) (newest : BoardState) → IsLineRun program strict m l answer n → Chosen l answer newest
   line_by (line.Command c) answer newest run = command_by c answer newest run.commanded
-  line_by (line.Doc doc parent deleted body) answer newest run = revision_by (revision_of doc parent deleted body) answer newest run.proposed
+  line_by (line.Doc doc parent deleted body) answer newest run = revision_by (own_revision doc parent deleted body) answer newest run.proposed
 
   -- ---- what is stored
 
@@ -190,7 +190,7 @@ module _ (h : List Entry) (program : Program) (strict : Bool) (m n : Moment) (al
 
   pub line_added : JudgedLater → (l : AdminLine) (answer : Outcome) → IsLineRun program strict m l answer n → Added answer
   line_added on (line.Command c) answer run = command_added c answer run.commanded
-  line_added on (line.Doc doc parent deleted body) answer run = revision_added on None (revision_of doc parent deleted body) answer run.proposed
+  line_added on (line.Doc doc parent deleted body) answer run = revision_added on None (own_revision doc parent deleted body) answer run.proposed
 
 -- one line more
 pub run_more : (program : Program) (strict : Bool) (m n k : Moment) (lines : List AdminLine) (outcomes : List LineOutcome) (l : AdminLine) (answer : Outcome)
@@ -283,7 +283,7 @@ sequence_last outcome.Memory507 others = append-nil (reverse others)
 
 -- what the lines stored is own since
 pub lines_own : JudgedLater → (h : List Entry) (program : Program) (strict : Bool) (m n : Moment) (lines : List AdminLine) (outcomes : List LineOutcome) → IsLaterThanAll n.read h → AreLinesRun program strict m lines outcomes n
-    → (added : List Waiting) × (n.own ≡ added ++ m.own) × (numbers added ≡ reverse (sequences_of outcomes)) × AllJudgedIn h program added
+    → (added : List Waiting) × (n.own ≡ added ++ m.own) × (numbers added ≡ reverse (stored_sequences outcomes)) × AllJudgedIn h program added
 lines_own on h program strict m n [] [] all run = ([], ap (λ (x : Moment). x.own) run, refl, tt)
 lines_own on h program strict m n [] (o ∷ outcomes) all run = absurd run
 lines_own on h program strict m n (l ∷ lines) [] all run = absurd run
@@ -293,6 +293,6 @@ lines_own on h program strict m n (l ∷ lines) (Plain answer ∷ outcomes) all 
     let others = lines_own on h program strict between n lines outcomes all rest in (
       others.0 ++ more.added,
       others.1 ∙ ap (λ (own : List Waiting). others.0 ++ own) more.own ∙ sym (append_assoc others.0 more.added m.own),
-      numbers-append others.0 more.added ∙ ap (λ (ns : List ℕ). ns ++ numbers more.added) others.2 ∙ ap (λ (ns : List ℕ). reverse (sequences_of outcomes) ++ ns) more.numbers_are ∙ sequence_last answer (sequences_of outcomes),
+      numbers-append others.0 more.added ∙ ap (λ (ns : List ℕ). ns ++ numbers more.added) others.2 ∙ ap (λ (ns : List ℕ). reverse (stored_sequences outcomes) ++ ns) more.numbers_are ∙ sequence_last answer (stored_sequences outcomes),
       all_judged h program others.0 more.added others.3 more.judged,
     )

@@ -10,13 +10,13 @@ use Rattle.sg_names.specs.ItemList.{list_text, rises}
 use Rattle.sg_history.specs.History.{among}
 use Rattle.grant_history.specs.inner.Sorted.{AreSorted}
 use Rattle.board_steps.proofs.NameTexts.{names_utf8}
-use Rattle.session_threads.specs.Opening.{IsInOrder}
+use Rattle.session_threads.specs.Opening.{IsSortedOf}
 
 themselves : (names : List (List ℕ)) → map (λ name. name) names ≡ names
 themselves [] = refl
 themselves (name ∷ names) = ap (λ (more : List (List ℕ)). name ∷ more) (themselves names)
 
-pub in_order_is : (given sorted : List (List ℕ)) → ((name : List ℕ) → among (map (λ n. n) sorted) name ≡ among (map (λ n. n) given) name) → AreSorted (map (λ n. n) sorted) → IsInOrder given sorted
+pub in_order_is : (given sorted : List (List ℕ)) → ((name : List ℕ) → among (map (λ n. n) sorted) name ≡ among (map (λ n. n) given) name) → AreSorted (map (λ n. n) sorted) → IsSortedOf given sorted
 in_order_is given sorted same rising = record {
   among = λ name. ap (λ (names : List (List ℕ)). among names name) (sym (themselves sorted)) ∙ same name ∙ ap (λ (names : List (List ℕ)). among names name) (themselves given);
   rising = subst (λ (names : List (List ℕ)). AreSorted names) (themselves sorted) rising;

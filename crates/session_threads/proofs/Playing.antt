@@ -10,7 +10,7 @@ use Rattle.sg_history.specs.declared.room.RoomFor.{RoomFor}
 use Rattle.sg_history.specs.Board.{After, BoardState, IsAfterAll}
 use Rattle.sg_history.specs.Book.{book_of}
 use Rattle.seq_gate.specs.Counts.{numbers, times, total}
-use Rattle.seq_gate.specs.Passes.{first_known, joined, owed, share, split_off}
+use Rattle.seq_gate.specs.Passes.{first_pass, joined_passes, owed_count, share, split_off}
 use Rattle.seq_gate.specs.Views.{PassView}
 use Rattle.seq_gate.specs.declared.known.Known.{Known}
 use Rattle.principals.specs.declared.admin_line.AdminLine.{AdminLine}
@@ -27,7 +27,7 @@ use Rattle.sg_outside.specs.Wire.{Traffic}
 use Rattle.session_run.specs.Served.{IsServed}
 use Rattle.session_threads.specs.declared.played.LineOutcome.{LineOutcome}
 use Rattle.session_threads.specs.Bounds.{AreBoundedLines}
-use Rattle.session_threads.specs.Lines.{AreLinesAt, sequences_of}
+use Rattle.session_threads.specs.Lines.{AreLinesAt, stored_sequences}
 use Rattle.session_threads.specs.Opening.{IsOpening}
 use Rattle.session_threads.specs.Pairs.{AllPairs}
 use Rattle.session_threads.specs.Played.{Device, IsPlayed, IsSessionOf, Leaves}
@@ -66,45 +66,45 @@ knows_of gone = map (λ (g : Gone). g.knows) gone
 all_later : (h : List Entry) (p : Known) (gone : List Gone) → IsLaterThanAll (joined_all p (knows_of gone)).read h → IsLaterThanAll p.read h × AllLater h gone
 all_later h p [] all = (all, tt)
 all_later h p (g ∷ gone) all =
-    let rest = all_later h (joined p g.knows) gone all in
+    let rest = all_later h (joined_passes p g.knows) gone all in
     let parts = later_parts p.read g.knows.read h rest.0 in
     (parts.0, (parts.1, rest.1))
 
 all_after : (b : BoardState) (p : Known) (gone : List Gone) → IsAfterAll (joined_all p (knows_of gone)).read b → IsAfterAll p.read b × AllAfter b gone
 all_after b p [] all = (all, tt)
 all_after b p (g ∷ gone) all =
-    let rest = all_after b (joined p g.knows) gone all in
+    let rest = all_after b (joined_passes p g.knows) gone all in
     let parts = after_parts p.read g.knows.read b rest.0 in
     (parts.0, (parts.1, rest.1))
 
 all_opening : (p : Known) (gone : List Gone) → (joined_all p (knows_of gone)).opening ≡ p.opening
 all_opening p [] = refl
-all_opening p (g ∷ gone) = all_opening (joined p g.knows) gone
+all_opening p (g ∷ gone) = all_opening (joined_passes p g.knows) gone
 
 all_times : (k : ℕ) (p : Known) (gone : List Gone) → times k (numbers (joined_all p (knows_of gone)).own) ≡ times k (numbers p.own) + total (λ (g : Gone). times k (numbers g.knows.own)) gone
 all_times k p [] = omega arith
 all_times k p (g ∷ gone) =
-    let rest = all_times k (joined p g.knows) gone in
+    let rest = all_times k (joined_passes p g.knows) gone in
     let both = ap (times k) (numbers-append p.own g.knows.own) ∙ times-append k (numbers p.own) (numbers g.knows.own) in
     omega (arith, rest, both)
 
 all_own : (h : List Entry) (program : Program) (p : Known) (gone : List Gone) → AllJudgedIn h program p.own → ((g : Gone) → IsAmong g gone → AllJudgedIn h program g.knows.own) → AllJudgedIn h program (joined_all p (knows_of gone)).own
 all_own h program p [] mine all = mine
 all_own h program p (g ∷ gone) mine all =
-    all_own h program (joined p g.knows) gone (all_judged h program p.own g.knows.own mine (all g (inl refl))) (λ other among. all other (inr among))
+    all_own h program (joined_passes p g.knows) gone (all_judged h program p.own g.knows.own mine (all g (inl refl))) (λ other among. all other (inr among))
 
 -- that the passes rest, and have all draws
 pub all_held : (p : Known) (gone : List Gone) → p.held ≡ [] → AllRest gone → (joined_all p (knows_of gone)).held ≡ []
 all_held p [] mine all = mine
-all_held p (g ∷ gone) mine all = all_held (joined p g.knows) gone (ap (λ (ns : List ℕ). ns ++ g.knows.held) mine ∙ all.0.held) all.1
+all_held p (g ∷ gone) mine all = all_held (joined_passes p g.knows) gone (ap (λ (ns : List ℕ). ns ++ g.knows.held) mine ∙ all.0.held) all.1
 
 pub all_rooms : (p : Known) (gone : List Gone) → p.rooms ≡ [] → AllRest gone → (joined_all p (knows_of gone)).rooms ≡ []
 all_rooms p [] mine all = mine
-all_rooms p (g ∷ gone) mine all = all_rooms (joined p g.knows) gone (ap (λ (rs : List RoomFor). rs ++ g.knows.rooms) mine ∙ all.0.rooms) all.1
+all_rooms p (g ∷ gone) mine all = all_rooms (joined_passes p g.knows) gone (ap (λ (rs : List RoomFor). rs ++ g.knows.rooms) mine ∙ all.0.rooms) all.1
 
 pub all_share : (p : Known) (gone : List Gone) → AllShare gone → share (joined_all p (knows_of gone)) ≡ share p + 2 ^ 32 * length gone
 all_share p [] all = omega arith
-all_share p (g ∷ gone) all = let rest = all_share (joined p g.knows) gone all.1 in omega (arith, rest, all.0)
+all_share p (g ∷ gone) all = let rest = all_share (joined_passes p g.knows) gone all.1 in omega (arith, rest, all.0)
 
 -- what each session left
 module _ (before : Known) (fresh : share before ≡ 2 ^ 32) where
@@ -135,7 +135,7 @@ module _ (gate : TableId) (first : Known) (program : Program) (strict : Bool) (l
   pub whole_again : share first ≡ 2 ^ 62 → share pass.knows ≡ 2 ^ 62
   whole_again all =
       let same = gone_length (split_off first) fresh begun is.gone is.sessions in
-      let sum = all_share (joined is.rest is.script.knows) is.gone (gone_share (split_off first) fresh begun is.gone is.sessions) in
+      let sum = all_share (joined_passes is.rest is.script.knows) is.gone (gone_share (split_off first) fresh begun is.gone is.sessions) in
       let script = is.script_done.share_is in
       let left = is.less.left in
       let made = is.less.made in
@@ -144,21 +144,21 @@ module _ (gate : TableId) (first : Known) (program : Program) (strict : Bool) (l
   pub none_held : Rests first → pass.knows.held ≡ []
   none_held rests =
       ap (λ (k : Known). k.held) is.joined_are
-      ∙ all_held (joined is.rest is.script.knows) is.gone (ap (λ (ns : List ℕ). ns ++ is.script.knows.held) (is.less.rests rests).held ∙ is.script_done.rests.held) (gone_rest (split_off first) fresh begun is.gone is.sessions)
+      ∙ all_held (joined_passes is.rest is.script.knows) is.gone (ap (λ (ns : List ℕ). ns ++ is.script.knows.held) (is.less.rests rests).held ∙ is.script_done.rests.held) (gone_rest (split_off first) fresh begun is.gone is.sessions)
 
   pub none_roomed : Rests first → pass.knows.rooms ≡ []
   none_roomed rests =
       ap (λ (k : Known). k.rooms) is.joined_are
-      ∙ all_rooms (joined is.rest is.script.knows) is.gone (ap (λ (rs : List RoomFor). rs ++ is.script.knows.rooms) (is.less.rests rests).rooms ∙ is.script_done.rests.rooms) (gone_rest (split_off first) fresh begun is.gone is.sessions)
+      ∙ all_rooms (joined_passes is.rest is.script.knows) is.gone (ap (λ (rs : List RoomFor). rs ++ is.script.knows.rooms) (is.less.rests rests).rooms ∙ is.script_done.rests.rooms) (gone_rest (split_off first) fresh begun is.gone is.sessions)
 
 -- ---- the whole
 
 module _ (reads : WasReadLaws) (on : JudgedLater) (sessions : SessionLaws)
     (opened board : BoardState) (program : Program) (strict : Bool) (lines : List AdminLine) (devices : List Device) (begun : List Begun) (outcomes : List LineOutcome) (leaves : List Leaves)
-    (is : AreClosed (first_known opened) program strict lines begun board outcomes leaves) (ready : AllPairs (λ (d : Device) (b : Begun). IsReadyFor program strict d b.setup b.traffic b.faults) devices begun)
+    (is : AreClosed (first_pass opened) program strict lines begun board outcomes leaves) (ready : AllPairs (λ (d : Device) (b : Begun). IsReadyFor program strict d b.setup b.traffic b.faults) devices begun)
     (later_log : IsLaterThanAll is.pass.knows.read board.log) (none : opened.bytes ≡ 0) where
   abbrev first : Known
-  first = first_known opened
+  first = first_pass opened
 
   abbrev split : Known
   split = split_off first
@@ -170,7 +170,7 @@ module _ (reads : WasReadLaws) (on : JudgedLater) (sessions : SessionLaws)
   threaded = is.threaded
 
   abbrev rest_and_script : Known
-  rest_and_script = joined threaded.rest threaded.script.knows
+  rest_and_script = joined_passes threaded.rest threaded.script.knows
 
   later : IsLaterThanAll rest_and_script.read h × AllLater h threaded.gone
   later = all_later h rest_and_script threaded.gone (subst (λ (p : Known). IsLaterThanAll p.read h) threaded.joined_are later_log)
@@ -216,7 +216,7 @@ module _ (reads : WasReadLaws) (on : JudgedLater) (sessions : SessionLaws)
 
   -- ---- what is stored, each once
 
-  script_own : (added : List Waiting) × (threaded.script.knows.own ≡ added ++ []) × (numbers added ≡ reverse (sequences_of outcomes)) × AllJudgedIn h program added
+  script_own : (added : List Waiting) × (threaded.script.knows.own ≡ added ++ []) × (numbers added ≡ reverse (stored_sequences outcomes)) × AllJudgedIn h program added
   script_own = lines_own on h program strict (moment_at split) (moment_at threaded.script.knows) lines outcomes script_later threaded.script_done.run
 
   stored_by : (d : Device) (b : Begun) (g : Gone) → IsReadyFor program strict d b.setup b.traffic b.faults → IsGone split b g → IsLaterThanAll g.knows.read h → Stored h program g.knows.own g.leaves.ended.stored
@@ -244,13 +244,13 @@ module _ (reads : WasReadLaws) (on : JudgedLater) (sessions : SessionLaws)
   rest_own : threaded.rest.own ≡ []
   rest_own = threaded.less.own
 
-  script_count : (k : ℕ) → times k (numbers rest_and_script.own) ≡ times k (sequences_of outcomes)
+  script_count : (k : ℕ) → times k (numbers rest_and_script.own) ≡ times k (stored_sequences outcomes)
   script_count k =
       ap (λ (ws : List Waiting). times k (numbers (ws ++ threaded.script.knows.own))) rest_own
       ∙ ap (λ (ws : List Waiting). times k (numbers ws)) (script_own.1 ∙ append-nil script_own.0)
-      ∙ ap (times k) script_own.2 ∙ times-reverse k (sequences_of outcomes)
+      ∙ ap (times k) script_own.2 ∙ times-reverse k (stored_sequences outcomes)
 
-  own_count : (k : ℕ) → times k (numbers is.pass.knows.own) ≡ times k (sequences_of outcomes) + total (λ (l : Leaves). times k l.ended.stored) leaves
+  own_count : (k : ℕ) → times k (numbers is.pass.knows.own) ≡ times k (stored_sequences outcomes) + total (λ (l : Leaves). times k l.ended.stored) leaves
   own_count k =
       let all = ap (λ (p : Known). times k (numbers p.own)) threaded.joined_are ∙ all_times k rest_and_script threaded.gone in
       let gone = totals k threaded.gone stored ∙ ap (λ (ls : List Leaves). total (λ (l : Leaves). times k l.ended.stored) ls) (sym threaded.leaves_are) in
@@ -259,8 +259,8 @@ module _ (reads : WasReadLaws) (on : JudgedLater) (sessions : SessionLaws)
   opening_is : is.pass.knows.opening ≡ length opened.log
   opening_is = ap (λ (p : Known). p.opening) threaded.joined_are ∙ all_opening rest_and_script threaded.gone ∙ threaded.less.opening
 
-  pub once_each : (k : ℕ) → times k (sequences_of outcomes) + total (λ (l : Leaves). times k l.ended.stored) leaves ≡ owed (length opened.log) board k
-  once_each k = sym (own_count k) ∙ is.closes.owners k ∙ ap (λ (n : ℕ). owed n board k) opening_is
+  pub once_each : (k : ℕ) → times k (stored_sequences outcomes) + total (λ (l : Leaves). times k l.ended.stored) leaves ≡ owed_count (length opened.log) board k
+  once_each k = sym (own_count k) ∙ is.closes.owners k ∙ ap (λ (n : ℕ). owed_count n board k) opening_is
 
   -- ---- all writes were judged
 
@@ -278,7 +278,7 @@ module _ (reads : WasReadLaws) (on : JudgedLater) (sessions : SessionLaws)
   own_judged = subst (λ (p : Known). AllJudgedIn h program p.own) (sym threaded.joined_are) (all_own h program rest_and_script threaded.gone script_judged (λ g among. among_stored g threaded.gone stored among))
 
   pub all_judged_writes : (roles : List ConfigRole) (users : List ConfigUser) → IsOpening roles users opened.log → (k : ℕ) (w : Write) → book_of h k ≡ Some (entry.Write w) → IsJudgedWrite program (book_of h) k w
-  all_judged_writes = closing.all_judged_writes opened board program begins.log is.closes.pending is.pass.knows.own own_judged (λ k. is.closes.owners k ∙ ap (λ (n : ℕ). owed n board k) opening_is)
+  all_judged_writes = closing.all_judged_writes opened board program begins.log is.closes.pending is.pass.knows.own own_judged (λ k. is.closes.owners k ∙ ap (λ (n : ℕ). owed_count n board k) opening_is)
 
   -- all of it, by the configuration
   pub played : (config : Config) → program ≡ arc_value config.program → strict ≡ not config.conflicts → IsOpening config.roles config.users opened.log → IsPlayed config lines devices board outcomes leaves

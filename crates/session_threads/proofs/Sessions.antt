@@ -15,14 +15,14 @@ use Rattle.session_core.specs.declared.act.Want.{Want}
 use Rattle.session_core.specs.declared.act.Want.TheVariants as want
 use Rattle.session_core.specs.declared.event.Event.{Event}
 use Rattle.session_core.specs.declared.event.Event.TheVariants as event
-use Rattle.session_core.specs.Feeds.{AreOffered, RunsFeed, feed_looks, not_offered, rows_at}
+use Rattle.session_core.specs.Feeds.{AreRowsOffered, RunsFeed, feed_looks, not_offered, feed_rows_at}
 use Rattle.session_core.specs.Right.{AreRight}
 use Rattle.session_core.specs.State.{Machine, new_machine}
-use Rattle.session_core.specs.Steps.{Leads, Step, put_by, wanted_after}
+use Rattle.session_core.specs.Steps.{Leads, SessionStep, put_by, wanted_after}
 use Rattle.write_path.specs.Reads.{IsLaterThanAll, Reads}
 use Rattle.session_run.specs.declared.ended.Ended.{Ended}
 use Rattle.session_run.specs.declared.serve.Setup.{Setup}
-use Rattle.session_run.specs.Answered.{AreAnswered, IsAnswered, Moment}
+use Rattle.session_run.specs.Answered.{AreAnswered, IsEventAnswered, Moment}
 use Rattle.session_run.specs.Judged.{AreJudged}
 use Rattle.session_run.specs.Own.{HaveOwnBodies}
 use Rattle.session_run.specs.Served.{IsSession}
@@ -89,7 +89,7 @@ later_than_first (b ∷ added) before h later = later_than_first added before h 
 pub later_before : (before after : List BoardState) (low high : ℕ) (h : List Entry) → Reads before after low high → IsLaterThanAll after h → IsLaterThanAll before h
 later_before before after low high h reads later = later_than_first reads.added before h (subst (λ bs. IsLaterThanAll bs h) reads.read later)
 
-later_than_answered : (before after : Moment) (user : List ℕ) (program : Program) (strict : Bool) (wanted : Option Want) (e : Event) (h : List Entry) → IsAnswered before user program strict wanted e after → IsLaterThanAll after.read h → IsLaterThanAll before.read h
+later_than_answered : (before after : Moment) (user : List ℕ) (program : Program) (strict : Bool) (wanted : Option Want) (e : Event) (h : List Entry) → IsEventAnswered before user program strict wanted e after → IsLaterThanAll after.read h → IsLaterThanAll before.read h
 later_than_answered before after user program strict None (event.Whole message) h answered later = subst (λ (m : Moment). IsLaterThanAll m.read h) answered later
 later_than_answered before after user program strict None (event.Idle front) h answered later = subst (λ bs. IsLaterThanAll bs h) answered.read later
 later_than_answered before after user program strict None (event.Fed answer) h answered later = absurd answered
@@ -152,7 +152,7 @@ later_than_answered before after user program strict (Some (want.SetCheckpoint c
 later_than_answered before after user program strict (Some (want.SetCheckpoint client rev body)) (event.Set answer) h answered later = later_before before.read after.read before.lowest after.lowest h answered.reads later
 
 -- the steps up to some of them were answered by a moment of which the same history is later
-pub answered_by_then : (start now : Moment) (user : List ℕ) (program : Program) (strict : Bool) (later_steps steps : List Step) (h : List Entry) → AreAnswered start user program strict (later_steps ++ steps) now → IsLaterThanAll now.read h
+pub answered_by_then : (start now : Moment) (user : List ℕ) (program : Program) (strict : Bool) (later_steps steps : List SessionStep) (h : List Entry) → AreAnswered start user program strict (later_steps ++ steps) now → IsLaterThanAll now.read h
     → (then : Moment) × AreAnswered start user program strict steps then × IsLaterThanAll then.read h
 answered_by_then start now user program strict [] steps h answered later = (now, answered, later)
 answered_by_then start now user program strict (s ∷ later_steps) steps h (between, before, one) later =
@@ -161,18 +161,18 @@ answered_by_then start now user program strict (s ∷ later_steps) steps h (betw
 -- ---- resuming
 
 abbrev pub ResumeLaw : Type 0
-ResumeLaw = (start now : Moment) (h : List Entry) (user : List ℕ) (version : Version) (program : Program) (strict : Bool) (earlier : List Step) (begin : Step) (more : List Step) (after : Machine)
+ResumeLaw = (start now : Moment) (h : List Entry) (user : List ℕ) (version : Version) (program : Program) (strict : Bool) (earlier : List SessionStep) (begin : SessionStep) (more : List SessionStep) (after : Machine)
     → (runs : RunsFeed user version strict earlier begin more after) → AreAnswered start user program strict (more ++ begin ∷ earlier) now → IsLaterThanAll now.read h
-    → (offered : List Row) × AreOffered version (put_by (more ++ begin ∷ [])) offered
-    × (offered ++ not_offered after.feed ≡ rows_at h user runs.asked.since runs.asked.options (feed_looks (more ++ begin ∷ [])))
+    → (offered : List Row) × AreRowsOffered version (put_by (more ++ begin ∷ [])) offered
+    × (offered ++ not_offered after.feed ≡ feed_rows_at h user runs.asked.since runs.asked.options (feed_looks (more ++ begin ∷ [])))
     × ((sent row : Row) → HasRow offered sent → HasRow (feed (all_of h) user runs.asked.since runs.asked.options) row
     → HasRow offered row ⊎ IsAhead (feed (all_of h) user sent.key runs.asked.options) sent.key row)
 
-pub resume_in : ResumeLaw → (board : BoardState) (program : Program) (strict : Bool) (device : Device) (left : Leaves) (earlier : List Step) (begin : Step) (more later : List Step) (after : Machine)
+pub resume_in : ResumeLaw → (board : BoardState) (program : Program) (strict : Bool) (device : Device) (left : Leaves) (earlier : List SessionStep) (begin : SessionStep) (more later : List SessionStep) (after : Machine)
     → (is : IsSessionOf board program strict device left) → steps_of is.served.session.turns ≡ later ++ (more ++ begin ∷ earlier)
     → (runs : RunsFeed device.user device.version strict earlier begin more after)
-    → (offered : List Row) × AreOffered device.version (put_by (more ++ begin ∷ [])) offered
-    × (offered ++ not_offered after.feed ≡ rows_at board.log device.user runs.asked.since runs.asked.options (feed_looks (more ++ begin ∷ [])))
+    → (offered : List Row) × AreRowsOffered device.version (put_by (more ++ begin ∷ [])) offered
+    × (offered ++ not_offered after.feed ≡ feed_rows_at board.log device.user runs.asked.since runs.asked.options (feed_looks (more ++ begin ∷ [])))
     × ((sent row : Row) → HasRow offered sent → HasRow (feed (all_of board.log) device.user runs.asked.since runs.asked.options) row
     → HasRow offered row ⊎ IsAhead (feed (all_of board.log) device.user sent.key runs.asked.options) sent.key row)
 resume_in law board program strict device left earlier begin more later after is split runs =

@@ -3,7 +3,7 @@ use Rattle.std.proofs.Common.{◌≡◌, Bool, ◌≤◌, ◌+◌, ◌*◌, ◌^
 use Rattle.std.proofs.lemmas.List.{length-map}
 use Rattle.atomic_table.specs.Seated.{TableId}
 use Rattle.sg_outside.specs.Wire.{Traffic}
-use Rattle.seq_gate.specs.Passes.{joined, share, split_from, split_off}
+use Rattle.seq_gate.specs.Passes.{joined_passes, share, split_from, split_off}
 use Rattle.seq_gate.specs.Views.{PassView}
 use Rattle.seq_gate.specs.declared.known.Known.{Known}
 use Rattle.principals.specs.declared.admin_line.AdminLine.{AdminLine}
@@ -31,9 +31,9 @@ less_more p q r n m less is left one = record {
   read = ap (λ (x : Known). x.read) is ∙ less.read;
 }
 
-pub joined_more : (p : Known) (qs : List Known) (q : Known) → joined_all p (qs ++ q ∷ []) ≡ joined (joined_all p qs) q
+pub joined_more : (p : Known) (qs : List Known) (q : Known) → joined_all p (qs ++ q ∷ []) ≡ joined_passes (joined_all p qs) q
 joined_more p [] q = refl
-joined_more p (x ∷ qs) q = joined_more (joined p x) qs q
+joined_more p (x ∷ qs) q = joined_more (joined_passes p x) qs q
 
 -- setups and wires, the jobs of these, what the jobs gave, and what is left of it
 module _ {R J D E W : Type 0} (recorded : W → Option Traffic) (faults : W → ℕ)
@@ -110,7 +110,7 @@ module _ {R J D E W : Type 0} (recorded : W → Option Traffic) (faults : W → 
   -- all of it
   pub threaded_is : (first : Known) → split ≡ split_off first → (program : Program) (strict : Bool) (lines : List AdminLine) (rs : List R) (js : List J) (ds : List D) (es : List E) (outcomes : List LineOutcome) (script pass : PassView) (after_jobs rest other with_script : Known)
       → IsLessBy first (length rs) after_jobs → 2 ^ 34 + 2 ^ 32 * length rs ≤ first.left → rest ≡ split_from after_jobs → other ≡ split_off after_jobs
-      → IsScriptDone gate other program strict lines script outcomes → with_script ≡ joined rest script.knows → pass.knows ≡ joined_all with_script (map (λ (d : D). (ground_done d).knows) ds) → pass.gate ≡ gate
+      → IsScriptDone gate other program strict lines script outcomes → with_script ≡ joined_passes rest script.knows → pass.knows ≡ joined_all with_script (map (λ (d : D). (ground_done d).knows) ds) → pass.gate ≡ gate
       → AllPairs IsJobOf rs js → AllPairs IsDoneBy js ds → AllPairs IsLeftOf ds es
       → AreThreaded gate first program strict lines (map begun_of rs) pass outcomes (map leaves_of es)
   threaded_is first split_is program strict lines rs js ds es outcomes script pass after_jobs rest other with_script less room rest_is other_is script_done with_is taken here jobs done left = record {
@@ -122,5 +122,5 @@ module _ {R J D E W : Type 0} (recorded : W → Option Traffic) (faults : W → 
     leaves_are = all_left ds es left;
     rest = rest;
     less = less_more first after_jobs rest (length rs) _ less rest_is (let l = less.left in omega (arith, l, room)) (ap (λ (n : ℕ). n + 1) (length-map rs begun_of));
-    joined_are = taken ∙ ap (λ (k : Known). joined_all k (map (λ (d : D). (ground_done d).knows) ds)) with_is ∙ ap (λ (ks : List Known). joined_all (joined rest script.knows) ks) (all_knows ds);
+    joined_are = taken ∙ ap (λ (k : Known). joined_all k (map (λ (d : D). (ground_done d).knows) ds)) with_is ∙ ap (λ (ks : List Known). joined_all (joined_passes rest script.knows) ks) (all_knows ds);
   }

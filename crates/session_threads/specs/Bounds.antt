@@ -10,28 +10,28 @@ use Rattle.session_core.specs.declared.act.Want.{Want}
 use Rattle.session_core.specs.declared.act.Want.TheVariants as want
 use Rattle.session_core.specs.declared.event.Event.{Event}
 use Rattle.session_core.specs.declared.event.Event.TheVariants as event
-use Rattle.session_core.specs.Steps.{Step, wanted_after}
+use Rattle.session_core.specs.Steps.{SessionStep, wanted_after}
 use Rattle.session_run.specs.Numbers.{named_of, number_in, AreNamedRising, AreNamedWithin}
 use Rattle.session_threads.specs.declared.played.LineOutcome.{LineOutcome}
 use Rattle.session_threads.specs.declared.played.LineOutcome.TheVariants.{Plain}
 
 -- too many places are taken only where the history has at least 10,000 entries past the front, and the log is full only where it has at
 -- least 102
-abbrev pub IsBounded : List Entry → Outcome → Type 0
-IsBounded h (outcome.Full503 at places) = at + 10000 ≤ length h
-IsBounded h (outcome.LogFull509 at entries bytes) = 102 ≤ length h
-IsBounded h other = Unit {0}
+abbrev pub IsOutcomeBounded : List Entry → Outcome → Type 0
+IsOutcomeBounded h (outcome.Full503 at places) = at + 10000 ≤ length h
+IsOutcomeBounded h (outcome.LogFull509 at entries bytes) = 102 ≤ length h
+IsOutcomeBounded h other = Unit {0}
 
 abbrev pub IsBoundedEvent : List Entry → Event → Type 0
-IsBoundedEvent h (event.Judged answer) = IsBounded h answer
+IsBoundedEvent h (event.Judged answer) = IsOutcomeBounded h answer
 IsBoundedEvent h other = Unit {0}
 
 -- the same of the outcomes of a script's lines, and of what was answered to a session
 abbrev pub AreBoundedLines : List Entry → List LineOutcome → Type 0
 AreBoundedLines h [] = Unit {0}
-AreBoundedLines h (Plain answer ∷ outcomes) = IsBounded h answer × AreBoundedLines h outcomes
+AreBoundedLines h (Plain answer ∷ outcomes) = IsOutcomeBounded h answer × AreBoundedLines h outcomes
 
-abbrev pub AreBoundedSteps : List Entry → List Step → Type 0
+abbrev pub AreBoundedSteps : List Entry → List SessionStep → Type 0
 AreBoundedSteps h [] = Unit {0}
 AreBoundedSteps h (s ∷ steps) = IsBoundedEvent h s.event × AreBoundedSteps h steps
 
@@ -42,13 +42,13 @@ IsFullEvent side user (event.Set set.Full503) (Some (want.SetCheckpoint client r
 IsFullEvent side user other wanted = Unit {0}
 
 -- the same of all that was answered to a session
-abbrev pub AreFullSteps : List SideEntry → List ℕ → List Step → Type 0
+abbrev pub AreFullSteps : List SideEntry → List ℕ → List SessionStep → Type 0
 AreFullSteps side user [] = Unit {0}
 AreFullSteps side user (s ∷ earlier) = IsFullEvent side user s.event (wanted_after earlier) × AreFullSteps side user earlier
 
 -- what is answered of checkpoints in the steps of a user's session, the last step first, by what is kept at the end: the numbers that
 -- are named don't fall for any client, and none is above the one that is kept; and no room was found only where there is none
-pub record AreCheckpointsWithin (side : List SideEntry) (user : List ℕ) (steps : List Step) : Type 0 where
+pub record AreCheckpointsWithin (side : List SideEntry) (user : List ℕ) (steps : List SessionStep) : Type 0 where
   pub rising : AreNamedRising (named_of steps)
   pub within : AreNamedWithin user side (named_of steps)
   pub full : AreFullSteps side user steps

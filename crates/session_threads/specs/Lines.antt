@@ -18,7 +18,7 @@ use Rattle.doc_board.specs.Outcomes.{IsByLimits, IsOutcome, IsWriteOf, bytes_of}
 use Rattle.write_path.specs.Own.{own_after}
 use Rattle.session_threads.specs.declared.played.LineOutcome.{LineOutcome}
 use Rattle.session_threads.specs.declared.played.LineOutcome.TheVariants.{Plain}
-use Rattle.session_threads.specs.OwnRevisions.{revision_of}
+use Rattle.session_threads.specs.OwnRevisions.{own_revision}
 
 -- an outcome goes with the limits of a board, for so many bytes, of which the history is later
 pub record IsLimited (h : List Entry) (bytes : ℕ) (answer : Outcome) : Type 0 where
@@ -52,7 +52,7 @@ pub record IsRevisionBy (h : List Entry) (program : Program) (strict : Bool) (r 
 -- what a line comes to by a board
 abbrev pub IsLineBy : List Entry → Program → Bool → AdminLine → BoardState → Outcome → Type 0
 IsLineBy h program strict (line.Command c) board answer = IsCommandBy h (entry_of c) board answer
-IsLineBy h program strict (line.Doc doc parent deleted body) board answer = IsRevisionBy h program strict (revision_of doc parent deleted body) board answer
+IsLineBy h program strict (line.Doc doc parent deleted body) board answer = IsRevisionBy h program strict (own_revision doc parent deleted body) board answer
 
 -- a line has its outcome by a board of which the history is later, which has these entries, and of which the log has at least this length
 pub record IsLineAt (h : List Entry) (program : Program) (strict : Bool) (stored : List Waiting) (least : ℕ) (l : AdminLine) (answer : Outcome) (board : BoardState) : Type 0 where
@@ -76,6 +76,6 @@ abbrev pub sequence_before : Outcome → List ℕ → List ℕ
 sequence_before (outcome.Stored sequence at) others = sequence ∷ others
 sequence_before other others = others
 
-abbrev pub sequences_of : List LineOutcome → List ℕ
-sequences_of [] = []
-sequences_of (Plain answer ∷ outcomes) = sequence_before answer (sequences_of outcomes)
+abbrev pub stored_sequences : List LineOutcome → List ℕ
+stored_sequences [] = []
+stored_sequences (Plain answer ∷ outcomes) = sequence_before answer (stored_sequences outcomes)

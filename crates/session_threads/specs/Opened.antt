@@ -7,7 +7,7 @@ use Rattle.doc_board.specs.Boards.{board_of, bytes_stored}
 use Rattle.doc_board.specs.Outcomes.{IsByLimits}
 use Rattle.doc_board.specs.State.{State}
 use Rattle.board_steps.specs.After.{IsBoardCommanded}
-use Rattle.write_path.specs.Own.{in_order}
+use Rattle.write_path.specs.Own.{own_in_order}
 use Rattle.write_path.specs.Solo.{Solo}
 use Rattle.session_threads.specs.Opening.{AreOf}
 
@@ -19,7 +19,7 @@ alone log = record { log = log; pending = []; rooms = []; checkpoints = []; know
 pub record HasOwnLog (g : Solo) : Type 0 where
   pub pending : g.board.pending ≡ []
   pub rooms : g.board.rooms ≡ []
-  pub log : g.board.log ≡ in_order g.own
+  pub log : g.board.log ≡ own_in_order g.own
 
 -- a log that has no body, and no more entries than it has room for
 pub record IsOpened (log : List Entry) : Type 0 where

@@ -8,22 +8,22 @@ use Rattle.gateway_config.specs.declared.config.ConfigRole.{ConfigRole}
 use Rattle.gateway_config.specs.declared.config.ConfigUser.{ConfigUser}
 
 -- the same names in their order, each once
-pub record IsInOrder (given sorted : List (List ℕ)) : Type 0 where
+pub record IsSortedOf (given sorted : List (List ℕ)) : Type 0 where
   pub among : (name : List ℕ) → among sorted name ≡ among given name
   pub rising : AreSorted sorted
 
 -- the put of a role
 pub record IsRoleEntry (role : ConfigRole) (e : Entry) : Type 0 where
   pub channels : List (List ℕ)
-  pub in_order : IsInOrder role.channels channels
+  pub in_order : IsSortedOf role.channels channels
   pub entry : e ≡ entry.PutRole role.name channels
 
 -- the put of a user
 pub record IsUserEntry (user : ConfigUser) (e : Entry) : Type 0 where
   pub channels : List (List ℕ)
   pub roles : List (List ℕ)
-  pub channels_in_order : IsInOrder user.channels channels
-  pub roles_in_order : IsInOrder user.roles roles
+  pub channels_in_order : IsSortedOf user.channels channels
+  pub roles_in_order : IsSortedOf user.roles roles
   pub entry : e ≡ entry.PutUser user.name channels roles
 
 -- each of these is of one, in their order

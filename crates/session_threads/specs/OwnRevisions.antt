@@ -4,16 +4,16 @@ use Rattle.sg_names.specs.declared.rev_id.RevId.{RevId}
 use Rattle.rev_tree.specs.OwnRev.{own_rev_of}
 use Rattle.repl_messages.specs.declared.revision.Revision.{Revision}
 
-abbrev pub ancestors_of : Option RevId → List RevId
-ancestors_of None = []
-ancestors_of (Some parent) = parent ∷ []
+abbrev pub own_ancestors : Option RevId → List RevId
+own_ancestors None = []
+own_ancestors (Some parent) = parent ∷ []
 
 -- the gateway's own revision of this body under the parent, with the parent as its one ancestor
-abbrev pub revision_of : List ℕ → Option RevId → Bool → List ℕ → Revision
-revision_of doc parent deleted body = record {
+abbrev pub own_revision : List ℕ → Option RevId → Bool → List ℕ → Revision
+own_revision doc parent deleted body = record {
   doc = doc;
   rev = own_rev_of parent deleted body;
-  ancestors = ancestors_of parent;
+  ancestors = own_ancestors parent;
   deleted = deleted;
   noconflicts = false;
   body = body;

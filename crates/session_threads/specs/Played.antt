@@ -9,7 +9,7 @@ use Rattle.sg_history.specs.Board.{BoardState}
 use Rattle.sg_history.specs.Book.{book_of}
 use Rattle.sg_history.specs.History.{Extends}
 use Rattle.seq_gate.specs.Counts.{times, total}
-use Rattle.seq_gate.specs.Passes.{owed}
+use Rattle.seq_gate.specs.Passes.{owed_count}
 use Rattle.principals.specs.declared.admin_line.AdminLine.{AdminLine}
 use Rattle.gateway_config.specs.declared.config.Config.{Config}
 use Rattle.repl_messages.specs.declared.request.Version.{Version}
@@ -24,7 +24,7 @@ use Rattle.session_run.specs.Served.{IsServed}
 use Rattle.session_run.specs.Turns.{steps_of, undone}
 use Rattle.session_threads.specs.declared.played.LineOutcome.{LineOutcome}
 use Rattle.session_threads.specs.Bounds.{AreBoundedLines, AreBoundedSteps, AreCheckpointsWithin}
-use Rattle.session_threads.specs.Lines.{AreLinesAt, sequences_of}
+use Rattle.session_threads.specs.Lines.{AreLinesAt, stored_sequences}
 use Rattle.session_threads.specs.Opening.{IsOpening}
 use Rattle.session_threads.specs.Pairs.{AllPairs}
 
@@ -73,6 +73,6 @@ pub record IsPlayed (config : Config) (lines : List AdminLine) (devices : List D
   pub begins : Extends opening board.log
   pub script : AreLinesAt board.log (arc_value config.program) (not config.conflicts) [] (length opening) lines outcomes
   pub sessions : AllPairs (IsSessionOf board (arc_value config.program) (not config.conflicts)) devices left
-  pub once : (k : ℕ) → times k (sequences_of outcomes) + total (λ l. times k l.ended.stored) left ≡ owed (length opening) board k
+  pub once : (k : ℕ) → times k (stored_sequences outcomes) + total (λ l. times k l.ended.stored) left ≡ owed_count (length opening) board k
   pub judged : (k : ℕ) (w : Write) → book_of board.log k ≡ Some (entry.Write w) → IsJudgedWrite (arc_value config.program) (book_of board.log) k w
   pub bounded : AreBoundedLines board.log outcomes

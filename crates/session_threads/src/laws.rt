@@ -14,10 +14,10 @@ ghost use Rattle.sg_history.specs.Feed.{feed};
 ghost use Rattle.sg_history.specs.History.{past};
 ghost use Rattle.feed_rows.specs.Laws.{HasRow, IsAhead, all_of};
 ghost use Rattle.sync_syntax.specs.declared.tree.Program.{Program};
-ghost use Rattle.session_core.specs.Feeds.{AreOffered, RunsFeed, feed_looks, not_offered, rows_at};
+ghost use Rattle.session_core.specs.Feeds.{AreRowsOffered, RunsFeed, feed_looks, not_offered, feed_rows_at};
 ghost use Rattle.session_core.specs.Right.{AreRight};
 ghost use Rattle.session_core.specs.State.{Machine, new_machine};
-ghost use Rattle.session_core.specs.Steps.{Leads, Step, put_by};
+ghost use Rattle.session_core.specs.Steps.{Leads, SessionStep, put_by};
 ghost use Rattle.session_run.specs.Judged.{AreJudged};
 ghost use Rattle.session_run.specs.Own.{HaveOwnBodies};
 ghost use Rattle.session_run.specs.Turns.{steps_of};
@@ -55,15 +55,15 @@ pub fn sessions()
 /// session's own since key, was offered, or has a key above the sent one and stands in the feed from that.
 pub fn resume()
     ensures { (board : BoardState) (program : Program) (strict : Bool) (device : Device)
-        (left : Leaves) (earlier : List Step) (begin : Step) (more later : List Step)
+        (left : Leaves) (earlier : List SessionStep) (begin : SessionStep) (more later : List SessionStep)
         (after : Machine)
         → (is : IsSessionOf board program strict device left)
         → steps_of is.served.session.turns ≡ later ++ (more ++ begin ∷ earlier)
         → (runs : RunsFeed device.user device.version strict earlier begin more after)
         → (offered : List Row)
-        × AreOffered device.version (put_by (more ++ begin ∷ [])) offered
+        × AreRowsOffered device.version (put_by (more ++ begin ∷ [])) offered
         × (offered ++ not_offered after.feed
-        ≡ rows_at board.log device.user runs.asked.since runs.asked.options
+        ≡ feed_rows_at board.log device.user runs.asked.since runs.asked.options
         (feed_looks (more ++ begin ∷ [])))
         × ((sent row : Row) → HasRow offered sent
         → HasRow (feed (all_of board.log) device.user runs.asked.since runs.asked.options) row

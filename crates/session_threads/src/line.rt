@@ -1,10 +1,10 @@
 //! The lines of a script, each run at a ground.
 
 ghost use Rattle.std.specs.Prelude.{◌≡◌, ◌≤◌, ◌+◌, ◌*◌, [], false, length, vec_capacity, IfOk, IsTrue};
-ghost use Rattle.principals.specs.Script.{AreLines, IsLine, is_parent};
+ghost use Rattle.principals.specs.Script.{AreLines, IsScriptLine, may_be_parent};
 ghost use Rattle.write_path.specs.Origins.{Spends};
 ghost use Rattle.session_run.specs.Answered.{moment};
-ghost use Rattle.session_threads.specs.OwnRevisions.{ancestors_of, revision_of};
+ghost use Rattle.session_threads.specs.OwnRevisions.{own_ancestors, own_revision};
 ghost use Rattle.session_threads.specs.inner.Runs.{AreLinesRun, IsLineRun};
 
 use crate::played::LineOutcome;
@@ -19,7 +19,7 @@ use write_path::{Ground, Resolved};
 
 /// The parent as the one ancestor; none where there is no parent.
 fn ancestors(alloc: Global, parent: Option<RevId>) -> Result<Revs, Memory>
-    ensures { IfOk result (λ revs. revs ≡ ancestors_of parent) }
+    ensures { IfOk result (λ revs. revs ≡ own_ancestors parent) }
 {
     let mut revs = Revs::new(alloc);
     if let Some(parent) = parent {
@@ -36,8 +36,8 @@ pub fn own_revision(
     deleted: bool,
     body: Bytes,
 ) -> Result<Revision, Memory>
-    requires { IsTrue (is_parent parent) }
-    ensures { IfOk result (λ r. r ≡ revision_of doc parent deleted body) }
+    requires { IsTrue (may_be_parent parent) }
+    ensures { IfOk result (λ r. r ≡ own_revision doc parent deleted body) }
 {
     let rev = own_rev(alloc, parent.as_ref(), deleted, body.as_slice())?;
     let ancestors = ancestors(alloc, parent)?;
@@ -59,7 +59,7 @@ fn run_line<G: Ground>(
     strict: bool,
     line: AdminLine,
 ) -> Outcome
-    requires line { IsLine line }
+    requires line { IsScriptLine line }
     requires draws { 2 ≤ G.left ground.old }
     ensures run { IsLineRun program.now strict
         (moment (G.read ground.old) (G.lowest_front ground.old) (G.recorded ground.old)

@@ -7,7 +7,7 @@ ghost use Rattle.sg_names.specs.Grammar.{is_channel_name, is_name};
 ghost use Rattle.sg_names.specs.Names.{is_names, names_text};
 ghost use Rattle.sg_history.specs.Journal.{IsEntry};
 ghost use Rattle.principals.specs.Script.{entry_of};
-ghost use Rattle.session_threads.specs.Opening.{IsInOrder, IsOpening, IsRoleEntry, IsUserEntry};
+ghost use Rattle.session_threads.specs.Opening.{IsSortedOf, IsOpening, IsRoleEntry, IsUserEntry};
 ghost use Rattle.session_threads.specs.Opened.{HasOwnLog, IsCommandRun, IsGrownByAll, IsOpened, is_taken};
 
 use gateway_config::{Config, ConfigRole, ConfigRoles, ConfigUser, ConfigUsers};
@@ -37,7 +37,7 @@ fn pass_names(names: &[Name])
 
 /// Channels in their order, each once.
 fn channels_in_order(channels: Channels) -> Channels
-    ensures order { IsInOrder channels result }
+    ensures order { IsSortedOf channels result }
     ensures grammar { IsTrue (is_channels result) × IsUtf8 (channels_text result) }
 {
     let channels = in_order(channels.into_vec());
@@ -47,7 +47,7 @@ fn channels_in_order(channels: Channels) -> Channels
 
 /// Names in their order, each once.
 fn names_in_order(names: Names) -> Names
-    ensures order { IsInOrder names result }
+    ensures order { IsSortedOf names result }
     ensures grammar { IsTrue (is_names result) × IsUtf8 (names_text result) }
 {
     let names = in_order(names.into_vec());

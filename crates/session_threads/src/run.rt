@@ -3,7 +3,7 @@
 ghost use Rattle.std.specs.Prelude.{◌≡◌, ◌≤◌, ◌+◌, ◌*◌, ◌^◌, [], length, map, vec_capacity, IfOk, MatchResult};
 ghost use Rattle.std.specs.Arc.{arc_value};
 ghost use Rattle.sg_history.specs.Board.{BoardState};
-ghost use Rattle.seq_gate.specs.Passes.{first_known, joined};
+ghost use Rattle.seq_gate.specs.Passes.{first_pass, joined_passes};
 ghost use Rattle.principals.specs.Script.{AreLines};
 ghost use Rattle.write_path.specs.Shared.{Rests};
 ghost use Rattle.write_path.specs.Shelf.{shelf_state};
@@ -36,7 +36,7 @@ fn take_in<R: Wait + Sync, W: Wire + Send>(
     requires here { pass.old.gate ≡ gate.now }
     requires other { done.ground.gate ≡ gate.now }
     ensures gate { pass.new.gate ≡ pass.old.gate }
-    ensures knows { pass.new.knows ≡ joined pass.old.knows done.entry.ground.knows }
+    ensures knows { pass.new.knows ≡ joined_passes pass.old.knows done.entry.ground.knows }
     ensures rests { Rests done.entry.ground.knows }
     ensures wire { result.wire ≡ done.entry.wire }
     ensures ended { result.ended ≡ done.entry.ended }
@@ -219,7 +219,7 @@ fn behind_a_gate<R: Threads + Wait + Sync, W: Wire + Send>(
     ended: Vec<PlayedSession<W>>,
 ) -> Result<Played<W>, Memory>
     requires here { pass.gate ≡ gate }
-    requires opened { (b : BoardState) × (pass.knows ≡ first_known b) }
+    requires opened { (b : BoardState) × (pass.knows ≡ first_pass b) }
     requires lines { AreLines lines }
     requires few { length lines ≤ 2 ^ 30 }
     requires outcomes { (length lines ≤ vec_capacity outcomes) × (outcomes.items ≡ []) }
@@ -284,7 +284,7 @@ fn play<R: Threads + Wait + Sync, W: Wire + Send>(
     requires lines { AreLines lines }
     requires few { length lines ≤ 2 ^ 30 }
     requires sessions { length ready.items ≤ 1000 }
-    ensures { IfOk result (λ p. AreClosed (first_known (shelf_state shelf)) program.now strict lines
+    ensures { IfOk result (λ p. AreClosed (first_pass (shelf_state shelf)) program.now strict lines
         (map (λ s. record { setup = s.setup; traffic = W.recorded s.wire; faults = W.faults s.wire })
         ready.items) (shelf_state p.shelf) p.script
         (map (λ e. record {

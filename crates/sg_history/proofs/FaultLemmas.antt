@@ -16,7 +16,7 @@ use Rattle.sg_history.specs.declared.fault.Why.TheVariants as reason
 use Rattle.sg_history.specs.declared.fault.LineFault.{LineFault}
 use Rattle.sg_history.specs.declared.fault.LineFault.TheVariants as line
 use Rattle.sg_history.specs.FieldFaults.{FitAll, IsFirstUnfit, IsTextsFault, IsKindFault, IsFieldsFault, FitKind, AreFit}
-use Rattle.sg_history.specs.Faults.{Grammar, AreTexts, IsFirstBad, IsFault, IsText, grammars_of, mark_grammars, marks_grammars, sync_grammars, sync_text, HasReason, IsBadField, IsBadAmong}
+use Rattle.sg_history.specs.Faults.{Grammar, AreTexts, IsFirstBad, IsFault, IsText, grammars_of, mark_grammars, marks_grammars, sync_grammars, sync_text, HasReason, IsBadField, IsBadTextAmong}
 use Rattle.sg_history.specs.Journal.{AreMarks, IsEntry, IsMark, IsSync, fields_of, marks_fields}
 use Rattle.sg_history.specs.Line.{NoEntry}
 use Rattle.sg_history.specs.Pieces.{pieces}
@@ -220,26 +220,26 @@ first_behind (g ∷ gs) hs (t ∷ ts) us n zero front bad e = absurd (omega arit
 first_behind (g ∷ gs) hs (t ∷ ts) us n (suc m) front bad e = (front.0, first_behind gs hs ts us n m front.1 bad (omega arith))
 
 -- the one text that is read is outside its grammar
-pub bad_alone : (n : ℕ) (g : Grammar) (t : List ℕ) (e : LineFault) → IsBadField n g t e → IsBadAmong n (g ∷ []) (t ∷ []) e
+pub bad_alone : (n : ℕ) (g : Grammar) (t : List ℕ) (e : LineFault) → IsBadField n g t e → IsBadTextAmong n (g ∷ []) (t ∷ []) e
 bad_alone n g t (line.Bad why) bad = let place : n ≡ n + 0 = omega arith in (0, bad.0 ∙ ap reason.Field place, bad.1)
 bad_alone n g t line.Memory bad = tt
 
 -- one of the texts in front is outside its grammar
-pub bad_in_front : (n : ℕ) (gs hs : List Grammar) (ts us : List (List ℕ)) (e : LineFault) → IsBadAmong n gs ts e
-    → IsBadAmong n (gs ++ hs) (ts ++ us) e
+pub bad_in_front : (n : ℕ) (gs hs : List Grammar) (ts us : List (List ℕ)) (e : LineFault) → IsBadTextAmong n gs ts e
+    → IsBadTextAmong n (gs ++ hs) (ts ++ us) e
 bad_in_front n gs hs ts us (line.Bad why) bad = (bad.0, bad.1, first_in gs hs ts us bad.0 bad.2)
 bad_in_front n gs hs ts us line.Memory bad = tt
 
 -- one of the texts behind those that are in their grammars is outside its own
 pub bad_behind : (n m : ℕ) (gs hs : List Grammar) (ts us : List (List ℕ)) (e : LineFault) → AreTexts gs ts → m ≡ n + length gs
-    → IsBadAmong m hs us e → IsBadAmong n (gs ++ hs) (ts ++ us) e
+    → IsBadTextAmong m hs us e → IsBadTextAmong n (gs ++ hs) (ts ++ us) e
 bad_behind n m gs hs ts us (line.Bad why) front at bad =
     let place : m + bad.0 ≡ n + (length gs + bad.0) = omega arith in
     (length gs + bad.0, bad.1 ∙ ap reason.Field place, first_behind gs hs ts us bad.0 (length gs + bad.0) front bad.2 refl)
 bad_behind n m gs hs ts us line.Memory front at bad = tt
 
 -- a field behind a kind that these grammars follow is outside its own
-pub bad_texts : (gs : List Grammar) (ts us : List (List ℕ)) (e : LineFault) → ts ≡ us → length us ≡ length gs → IsBadAmong 2 gs us e
+pub bad_texts : (gs : List Grammar) (ts us : List (List ℕ)) (e : LineFault) → ts ≡ us → length us ≡ length gs → IsBadTextAmong 2 gs us e
     → HasReason (IsTextsFault IsText gs ts) e
 bad_texts gs ts us (line.Bad why) same many bad =
     let place : bad.0 ≡ 2 + bad.0 - 2 = omega arith in
@@ -250,7 +250,7 @@ bad_texts gs ts us line.Memory same many bad = tt
 
 -- a field behind this kind is outside its grammar
 pub bad_field_of : (kind : List ℕ) (gs : List Grammar) (ts us : List (List ℕ)) (e : LineFault) → grammars_of (length (kind ∷ ts)) kind ≡ Some gs → ts ≡ us
-    → length us ≡ length gs → IsBadAmong 2 gs us e → HasReason (IsFault (kind ∷ ts)) e
+    → length us ≡ length gs → IsBadTextAmong 2 gs us e → HasReason (IsFault (kind ∷ ts)) e
 bad_field_of kind gs ts us (line.Bad why) known same many bad =
     let place : 2 + bad.0 ≡ bad.0 + 2 = omega arith in
     fault_at IsText (grammars_of (length (kind ∷ ts))) kind gs ts us bad.0 why known same many (bad.1 ∙ ap reason.Field place) bad.2
@@ -280,12 +280,12 @@ sync_text_bad count text more e many bad =
 
 -- a field of a mark is outside its grammar
 pub sync_marks_bad : (count : ℕ) (text : List ℕ) (more : List (List ℕ)) (e : LineFault) → length more ≡ 5 * count → IsText sync_text text
-    → IsBadAmong 3 (marks_grammars count) more e → HasReason (IsFault (codes "S" ∷ text ∷ more)) e
+    → IsBadTextAmong 3 (marks_grammars count) more e → HasReason (IsFault (codes "S" ∷ text ∷ more)) e
 sync_marks_bad count text more e many fits bad =
     let n = (length (codes "S" ∷ text ∷ more) - 2) / 5 in
     let all : length (text ∷ more) ≡ length (sync_grammars n) = omega (arith, many, marks_count n) in
     let same : count ≡ n = omega (arith, many) in
-    let among : IsBadAmong 3 (marks_grammars n) more e = subst (λ (k : ℕ). IsBadAmong 3 (marks_grammars k) more e) same bad in
+    let among : IsBadTextAmong 3 (marks_grammars n) more e = subst (λ (k : ℕ). IsBadTextAmong 3 (marks_grammars k) more e) same bad in
     bad_field_of (codes "S") (sync_grammars n) (text ∷ more) (text ∷ more) e refl refl all
     (bad_behind 2 3 (sync_text ∷ []) (marks_grammars n) (text ∷ []) more e (fits, tt) refl among)
 
@@ -297,7 +297,7 @@ marks_split (suc count) rest =
 
 -- a field of the mark behind those that were read is outside its grammar
 pub mark_bad : (count i : ℕ) (ms : List Mark) (all texts left : List (List ℕ)) (e : LineFault) → AreMarks ms → length ms ≡ i → i < count
-    → all ≡ marks_fields ms ++ (texts ++ left) → IsBadAmong (5 * i + 3) mark_grammars texts e → IsBadAmong 3 (marks_grammars count) all e
+    → all ≡ marks_fields ms ++ (texts ++ left) → IsBadTextAmong (5 * i + 3) mark_grammars texts e → IsBadTextAmong 3 (marks_grammars count) all e
 mark_bad count i ms all texts left e are many inside is bad =
     let rest = count - (length ms + 1) in
     let whole : length ms + suc rest ≡ count = omega (arith, many, inside) in
@@ -305,8 +305,8 @@ mark_bad count i ms all texts left e are many inside is bad =
     let behind = bad_in_front (5 * i + 3) mark_grammars (marks_grammars rest) texts left e bad in
     let found = bad_behind 3 (5 * i + 3) (marks_grammars (length ms)) (mark_grammars ++ marks_grammars rest) (marks_fields ms) (texts ++ left) e (marks_texts ms are) place behind in
     let grammars = sym (marks_split (length ms) rest) ∙ ap marks_grammars whole in
-    subst (λ (gs : List Grammar). IsBadAmong 3 gs all e) grammars
-    (subst (λ (ts : List (List ℕ)). IsBadAmong 3 (marks_grammars (length ms) ++ (mark_grammars ++ marks_grammars rest)) ts e) (sym is) found)
+    subst (λ (gs : List Grammar). IsBadTextAmong 3 gs all e) grammars
+    (subst (λ (ts : List (List ℕ)). IsBadTextAmong 3 (marks_grammars (length ms) ++ (mark_grammars ++ marks_grammars rest)) ts e) (sym is) found)
 
 pub marks_more : (ms : List Mark) (mark : Mark) → AreMarks ms → IsMark mark → AreMarks (ms ++ mark ∷ [])
 marks_more [] mark are is = (is, tt)

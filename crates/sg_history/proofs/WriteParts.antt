@@ -3,7 +3,7 @@ use Rattle.std.proofs.Common.{ℕ, List, [], ◌∷◌, refl}
 use Rattle.sg_history.specs.declared.fault.LineFault.{LineFault}
 use Rattle.sg_history.specs.declared.line_of_write.WriteTexts.{WriteTexts}
 use Rattle.sg_history.specs.Line.{texts_of}
-use Rattle.sg_history.specs.Faults.{Grammar, AreTexts, IsBadAmong, document, revision, revisions, deleted, body, writer, number, channels, grants, role_grants, write_grammars}
+use Rattle.sg_history.specs.Faults.{Grammar, AreTexts, IsBadTextAmong, document, revision, revisions, deleted, body, writer, number, channels, grants, role_grants, write_grammars}
 use Rattle.sg_history.proofs.FaultLemmas.{bad_in_front, bad_behind}
 
 abbrev pub tree_grammars : List Grammar
@@ -43,32 +43,32 @@ abbrev behind_texts : WriteTexts → List (List ℕ)
 behind_texts t = t.deleted.now ∷ t.body.now ∷ t.by.now ∷ late_texts t
 
 -- a field of the first part is outside its grammar
-pub bad_tree : (t : WriteTexts) (e : LineFault) → IsBadAmong 2 tree_grammars (tree_texts t) e → IsBadAmong 2 write_grammars (texts_of t) e
+pub bad_tree : (t : WriteTexts) (e : LineFault) → IsBadTextAmong 2 tree_grammars (tree_texts t) e → IsBadTextAmong 2 write_grammars (texts_of t) e
 bad_tree t e bad = bad_in_front 2 tree_grammars behind_grammars (tree_texts t) (behind_texts t) e bad
 
-behind_tree : (t : WriteTexts) (e : LineFault) → AreTexts tree_grammars (tree_texts t) → IsBadAmong 5 behind_grammars (behind_texts t) e
-    → IsBadAmong 2 write_grammars (texts_of t) e
+behind_tree : (t : WriteTexts) (e : LineFault) → AreTexts tree_grammars (tree_texts t) → IsBadTextAmong 5 behind_grammars (behind_texts t) e
+    → IsBadTextAmong 2 write_grammars (texts_of t) e
 behind_tree t e tree bad =
     bad_behind 2 5 tree_grammars behind_grammars (tree_texts t) (behind_texts t) e tree refl bad
 
 -- a field of the second part is outside its grammar
-pub bad_content : (t : WriteTexts) (e : LineFault) → AreTexts tree_grammars (tree_texts t) → IsBadAmong 5 content_grammars (content_texts t) e
-    → IsBadAmong 2 write_grammars (texts_of t) e
+pub bad_content : (t : WriteTexts) (e : LineFault) → AreTexts tree_grammars (tree_texts t) → IsBadTextAmong 5 content_grammars (content_texts t) e
+    → IsBadTextAmong 2 write_grammars (texts_of t) e
 bad_content t e tree bad = behind_tree t e tree (bad_in_front 5 content_grammars late_grammars (content_texts t) (late_texts t) e bad)
 
 behind_content : (t : WriteTexts) (e : LineFault) → AreTexts tree_grammars (tree_texts t) → AreTexts content_grammars (content_texts t)
-    → IsBadAmong 8 late_grammars (late_texts t) e → IsBadAmong 2 write_grammars (texts_of t) e
+    → IsBadTextAmong 8 late_grammars (late_texts t) e → IsBadTextAmong 2 write_grammars (texts_of t) e
 behind_content t e tree content bad =
     behind_tree t e tree (bad_behind 5 8 content_grammars late_grammars (content_texts t) (late_texts t) e content refl bad)
 
 -- a field of the third part is outside its grammar
 pub bad_place : (t : WriteTexts) (e : LineFault) → AreTexts tree_grammars (tree_texts t) → AreTexts content_grammars (content_texts t)
-    → IsBadAmong 8 place_grammars (place_texts t) e → IsBadAmong 2 write_grammars (texts_of t) e
+    → IsBadTextAmong 8 place_grammars (place_texts t) e → IsBadTextAmong 2 write_grammars (texts_of t) e
 bad_place t e tree content bad =
     behind_content t e tree content (bad_in_front 8 place_grammars grant_grammars (place_texts t) (grant_texts t) e bad)
 
 -- a field of the last part is outside its grammar
 pub bad_grants : (t : WriteTexts) (e : LineFault) → AreTexts tree_grammars (tree_texts t) → AreTexts content_grammars (content_texts t)
-    → AreTexts place_grammars (place_texts t) → IsBadAmong 11 grant_grammars (grant_texts t) e → IsBadAmong 2 write_grammars (texts_of t) e
+    → AreTexts place_grammars (place_texts t) → IsBadTextAmong 11 grant_grammars (grant_texts t) e → IsBadTextAmong 2 write_grammars (texts_of t) e
 bad_grants t e tree content place bad =
     behind_content t e tree content (bad_behind 8 11 place_grammars grant_grammars (place_texts t) (grant_texts t) e place refl bad)

@@ -76,13 +76,13 @@ after_rows turn before rows =
     record { copy = apply_all before.copy (take turn.taken rows); since = since_after turn before.since rows }
 
 -- what a device keeps after a turn
-abbrev pub after_turn : List ℕ → Options → DeviceTurn → DeviceState → DeviceState
-after_turn user options turn before = after_rows turn before (rows_at user options turn before.since)
+abbrev pub device_after_turn : List ℕ → Options → DeviceTurn → DeviceState → DeviceState
+device_after_turn user options turn before = after_rows turn before (rows_at user options turn before.since)
 
 -- what a device keeps after these turns, of which the last stands first
 abbrev pub state_after : List ℕ → Options → List DeviceTurn → DeviceState
 state_after user options [] = start
-state_after user options (turn ∷ earlier) = after_turn user options turn (state_after user options earlier)
+state_after user options (turn ∷ earlier) = device_after_turn user options turn (state_after user options earlier)
 
 -- a turn's history extends that of the turn before, and its front is no smaller
 abbrev pub GoesOn : DeviceTurn → List DeviceTurn → Type 0

@@ -118,5 +118,5 @@ IsBadField n grammar text (line.Bad why) = (why ≡ reason.Field n) × ¬ (IsTex
 IsBadField n grammar text line.Memory = Unit {0}
 
 -- a refusal other than that memory ran out names the first of these texts that is outside its grammar, where the first text is the field of this number
-abbrev pub IsBadAmong : ℕ → List Grammar → List (List ℕ) → LineFault → Type 0
-IsBadAmong n grammars texts e = HasReason (λ why. (i : ℕ) × (why ≡ reason.Field (n + i)) × IsFirstBad grammars texts i) e
+abbrev pub IsBadTextAmong : ℕ → List Grammar → List (List ℕ) → LineFault → Type 0
+IsBadTextAmong n grammars texts e = HasReason (λ why. (i : ℕ) × (why ≡ reason.Field (n + i)) × IsFirstBad grammars texts i) e

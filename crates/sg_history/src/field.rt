@@ -12,7 +12,7 @@ ghost use Rattle.sg_names.specs.Hex.{hex_text, is_hex};
 ghost use Rattle.sg_history.specs.Journal.{deleted_text, by_text, is_by};
 ghost use Rattle.sg_history.specs.SyncText.{is_sync_text};
 ghost use Rattle.sg_history.specs.Faults as faults;
-ghost use Rattle.sg_history.specs.Faults.{AreTexts, IsText, IsBadAmong, IsBadField};
+ghost use Rattle.sg_history.specs.Faults.{AreTexts, IsText, IsBadTextAmong, IsBadField};
 
 use crate::fault::{LineFault, Why};
 use crate::sync_text::SyncText;
@@ -63,7 +63,7 @@ pub fn read_two<A: Field, B: Field>(
     ensures second { IfOk result (λ v. B.reads second.now v.1) }
     ensures texts { IfOk result (λ _. AreTexts (A.grammar ∷ B.grammar ∷ [])
         (first.now ∷ second.now ∷ [])) }
-    ensures fault { IfErr result (IsBadAmong number (A.grammar ∷ B.grammar ∷ [])
+    ensures fault { IfErr result (IsBadTextAmong number (A.grammar ∷ B.grammar ∷ [])
         (first.now ∷ second.now ∷ [])) }
 {
     let a = read(alloc, first, number)?;
@@ -85,7 +85,7 @@ pub fn read_three<A: Field, B: Field, C: Field>(
     ensures third { IfOk result (λ v. C.reads third.now v.2) }
     ensures texts { IfOk result (λ _. AreTexts (A.grammar ∷ B.grammar ∷ C.grammar ∷ [])
         (first.now ∷ second.now ∷ third.now ∷ [])) }
-    ensures fault { IfErr result (IsBadAmong number (A.grammar ∷ B.grammar ∷ C.grammar ∷ [])
+    ensures fault { IfErr result (IsBadTextAmong number (A.grammar ∷ B.grammar ∷ C.grammar ∷ [])
         (first.now ∷ second.now ∷ third.now ∷ [])) }
 {
     let a = read(alloc, first, number)?;

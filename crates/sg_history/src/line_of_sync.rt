@@ -1,7 +1,7 @@
 //! The fields of the line of a replaced sync function, read as one.
 
 ghost use Rattle.std.specs.Prelude.{◌≡◌, ◌≤◌, ◌<◌, ◌+◌, ◌-◌, ◌*◌, ◌^◌, ◌%◌, ◌++◌, ◌∷◌, [], nat_eq, List, ℕ, length, codes, IfOk, IfErr};
-ghost use Rattle.sg_history.specs.Faults.{HasReason, IsBadAmong, IsFault, mark_grammars, marks_grammars};
+ghost use Rattle.sg_history.specs.Faults.{HasReason, IsBadTextAmong, IsFault, mark_grammars, marks_grammars};
 ghost use Rattle.sg_history.specs.Journal.{AreMarks, IsMark, marks_fields};
 ghost use Rattle.sg_history.specs.Line.{AreRead, mark_texts_of};
 ghost use Rattle.sg_history.specs.Pieces.{pieces};
@@ -90,7 +90,7 @@ fn read_mark(alloc: Global, texts: MarkTexts<'_>, number: u64) -> Result<Mark, L
     requires { number < 2 ^ 64 - 5 }
     ensures mark { IfOk result (λ mark. IsMark mark) }
     ensures fields { IfOk result (λ mark. mark_texts_of texts.entry ≡ marks_fields (mark ∷ [])) }
-    ensures reason { IfErr result (IsBadAmong number mark_grammars (mark_texts_of texts.entry)) }
+    ensures reason { IfErr result (IsBadTextAmong number mark_grammars (mark_texts_of texts.entry)) }
 {
     let revision = read_three(alloc, texts.doc, texts.rev, texts.channels, number)?;
     let (grants, roles) = match read_two(alloc, texts.grants, texts.roles, number + 3) {
@@ -116,7 +116,7 @@ fn read_marks(alloc: Global, fields: &mut Cursor<'_>, count: usize) -> Result<Ma
     requires few { 5 * count < 2 ^ 64 - 3 }
     ensures marks { IfOk result (λ marks. AreMarks marks) }
     ensures fields { IfOk result (λ marks. fields.old ≡ marks_fields marks) }
-    ensures reason { IfErr result (IsBadAmong 3 (marks_grammars count) fields.old) }
+    ensures reason { IfErr result (IsBadTextAmong 3 (marks_grammars count) fields.old) }
 {
     let mut marks = Marks::new(alloc);
     for i in 0..count {

@@ -2,7 +2,7 @@
 
 ghost use Rattle.std.specs.Prelude.{IfOk, IfErr};
 ghost use Rattle.sg_history.specs.Line.{texts_of, ReadsWrite};
-ghost use Rattle.sg_history.specs.Faults.{IsBadAmong, write_grammars};
+ghost use Rattle.sg_history.specs.Faults.{IsBadTextAmong, write_grammars};
 
 use crate::entries::Write;
 use crate::fault::LineFault;
@@ -28,7 +28,7 @@ pub struct WriteTexts<'a> {
 /// Reads the fields of a write, from the first one on.
 pub fn read_write(alloc: Global, texts: WriteTexts<'_>) -> Result<Write, LineFault>
     ensures ok { IfOk result (λ write. ReadsWrite (texts_of texts.entry) write) }
-    ensures reason { IfErr result (IsBadAmong 2 write_grammars (texts_of texts.entry)) }
+    ensures reason { IfErr result (IsBadTextAmong 2 write_grammars (texts_of texts.entry)) }
 {
     let revision = read_three(alloc, texts.doc, texts.rev, texts.ancestors, 2)?;
     // What was read is dropped by hand: on the way out of a `?` its proof would cost twice as much.

@@ -5,7 +5,7 @@ use Rattle.sync_syntax.specs.declared.tree.Expr.{out-Expr}
 use Rattle.sync_syntax.specs.declared.tree.Expr as exprs
 use Rattle.sync_syntax.specs.declared.tree.Expr.TheOpen.{Expr-F, Suffix-F}
 use Rattle.sync_syntax.specs.declared.tree.Suffix.{out-Suffix}
-use Rattle.sync_meaning.specs.Expressions.{Layer, SuffixLayer}
+use Rattle.sync_meaning.specs.Expressions.{ExprLayer, SuffixLayer}
 use Rattle.sync_code.specs.declared.code.Code.{Code, out-Code}
 use Rattle.sync_code.specs.declared.code.Code as codes
 use Rattle.sync_code.specs.declared.code.Code.TheOpen.{Code-F, Tail-F}
@@ -15,7 +15,7 @@ use Rattle.sync_code.specs.declared.code.Tail.TheVariants as tails
 use Rattle.sync_meaning.specs.declared.variables.Slot.{Slot}
 use Rattle.sync_code.specs.Code.{source, tail_source, sources, tail_sources, member_sources, operand_sources}
 
-abbrev pub source_layer : Code-F Code Tail → Layer
+abbrev pub source_layer : Code-F Code Tail → ExprLayer
 source_layer (Code-F.Undefined p) = Expr-F.Undefined p
 source_layer (Code-F.Null p) = Expr-F.Null p
 source_layer (Code-F.Bool p b) = Expr-F.Bool p b

@@ -28,78 +28,78 @@ abbrev pub Inner : Type 0
 Inner = Scope → Statement → Act Completion
 
 pub open_Block : (depth : ℕ) (inner : Inner) (scope : Scope) (s : State) (p : Place) (ss : List Step)
-    → spec.opened depth inner scope (step_source (t.Block p ss)) s ≡ spec.block depth inner scope p (step_sources ss) s
-unfolding spec.opened
+    → spec.run_statement depth inner scope (step_source (t.Block p ss)) s ≡ spec.block depth inner scope p (step_sources ss) s
+unfolding spec.run_statement
 open_Block depth inner scope s p ss =
     let layer : out-Statement (step_source (t.Block p ss)) ≡ Statement-F.Block p (step_sources ss) = search (rules, steps.the_lemmas, statements.the_lemmas) in
     ap (λ z. spec.statement_at depth inner scope z s) layer
 
 pub open_Empty : (depth : ℕ) (inner : Inner) (scope : Scope) (s : State) (p : Place)
-    → spec.opened depth inner scope (step_source (t.Empty p)) s ≡ spec.jump p Normal s
-unfolding spec.opened
+    → spec.run_statement depth inner scope (step_source (t.Empty p)) s ≡ spec.jump p Normal s
+unfolding spec.run_statement
 open_Empty depth inner scope s p =
     let layer : out-Statement (step_source (t.Empty p)) ≡ Statement-F.Empty p = search (rules, steps.the_lemmas, statements.the_lemmas) in
     ap (λ z. spec.statement_at depth inner scope z s) layer
 
 pub open_Declare : (depth : ℕ) (inner : Inner) (scope : Scope) (s : State) (d : Opening)
-    → spec.opened depth inner scope (step_source (t.Declare d)) s ≡ and_then (spec.declare depth scope (opening_source d) s) (λ _. pure Normal)
-unfolding spec.opened
+    → spec.run_statement depth inner scope (step_source (t.Declare d)) s ≡ and_then (spec.declare depth scope (opening_source d) s) (λ _. pure Normal)
+unfolding spec.run_statement
 open_Declare depth inner scope s d =
     let layer : out-Statement (step_source (t.Declare d)) ≡ Statement-F.Declare (opening_source d) = search (rules, steps.the_lemmas, statements.the_lemmas) in
     ap (λ z. spec.statement_at depth inner scope z s) layer
 
 pub open_If : (depth : ℕ) (inner : Inner) (scope : Scope) (s : State) (p : Place) (e : Code) (x : Step) (y : Option Step)
-    → spec.opened depth inner scope (step_source (t.If p e x y)) s ≡ spec.choose depth inner scope p (source e) (step_source x) (other_source (other_of y)) s
-unfolding spec.opened
+    → spec.run_statement depth inner scope (step_source (t.If p e x y)) s ≡ spec.choose depth inner scope p (source e) (step_source x) (other_source (other_of y)) s
+unfolding spec.run_statement
 open_If depth inner scope s p e x y =
     let layer : out-Statement (step_source (t.If p e x y)) ≡ Statement-F.If p (source e) (step_source x) (other_source (other_of y)) = search (rules, steps.the_lemmas, statements.the_lemmas) in
     ap (λ z. spec.statement_at depth inner scope z s) layer
 
 pub open_For : (depth : ℕ) (inner : Inner) (scope : Scope) (s : State) (p : Place) (b : Option Begin) (e : Option Code) (l : Option Plain) (x : Step)
-    → spec.opened depth inner scope (step_source (t.For p b e l x)) s ≡ spec.loop_while depth inner scope p (begin_or_none b) (source_or_none e) (plain_or_none l) (step_source x) s
-unfolding spec.opened
+    → spec.run_statement depth inner scope (step_source (t.For p b e l x)) s ≡ spec.loop_while depth inner scope p (begin_or_none b) (source_or_none e) (plain_or_none l) (step_source x) s
+unfolding spec.run_statement
 open_For depth inner scope s p b e l x =
     let layer : out-Statement (step_source (t.For p b e l x)) ≡ Statement-F.For p (begin_or_none b) (source_or_none e) (plain_or_none l) (step_source x) = search (rules, steps.the_lemmas, statements.the_lemmas) in
     ap (λ z. spec.statement_at depth inner scope z s) layer
 
 pub open_ForOf : (depth : ℕ) (inner : Inner) (scope : Scope) (s : State) (p : Place) (how : Declares) (h : Held) (e : Code) (x : Step)
-    → spec.opened depth inner scope (step_source (t.ForOf p how h e x)) s ≡ spec.loop_of depth inner scope p how (held_source h) (source e) (step_source x) s
-unfolding spec.opened
+    → spec.run_statement depth inner scope (step_source (t.ForOf p how h e x)) s ≡ spec.loop_of depth inner scope p how (held_source h) (source e) (step_source x) s
+unfolding spec.run_statement
 open_ForOf depth inner scope s p how h e x =
     let layer : out-Statement (step_source (t.ForOf p how h e x)) ≡ Statement-F.ForOf p how (held_source h) (source e) (step_source x) = search (rules, steps.the_lemmas, statements.the_lemmas) in
     ap (λ z. spec.statement_at depth inner scope z s) layer
 
 pub open_Return : (depth : ℕ) (inner : Inner) (scope : Scope) (s : State) (p : Place) (e : Option Code)
-    → spec.opened depth inner scope (step_source (t.Return p e)) s ≡ spec.returned depth scope p (source_or_none e) s
-unfolding spec.opened
+    → spec.run_statement depth inner scope (step_source (t.Return p e)) s ≡ spec.returned depth scope p (source_or_none e) s
+unfolding spec.run_statement
 open_Return depth inner scope s p e =
     let layer : out-Statement (step_source (t.Return p e)) ≡ Statement-F.Return p (source_or_none e) = search (rules, steps.the_lemmas, statements.the_lemmas) in
     ap (λ z. spec.statement_at depth inner scope z s) layer
 
 pub open_Throw : (depth : ℕ) (inner : Inner) (scope : Scope) (s : State) (p : Place) (e : Code)
-    → spec.opened depth inner scope (step_source (t.Throw p e)) s ≡ spec.throw depth scope p (source e) s
-unfolding spec.opened
+    → spec.run_statement depth inner scope (step_source (t.Throw p e)) s ≡ spec.throw depth scope p (source e) s
+unfolding spec.run_statement
 open_Throw depth inner scope s p e =
     let layer : out-Statement (step_source (t.Throw p e)) ≡ Statement-F.Throw p (source e) = search (rules, steps.the_lemmas, statements.the_lemmas) in
     ap (λ z. spec.statement_at depth inner scope z s) layer
 
 pub open_Break : (depth : ℕ) (inner : Inner) (scope : Scope) (s : State) (p : Place)
-    → spec.opened depth inner scope (step_source (t.Break p)) s ≡ spec.jump p Break s
-unfolding spec.opened
+    → spec.run_statement depth inner scope (step_source (t.Break p)) s ≡ spec.jump p Break s
+unfolding spec.run_statement
 open_Break depth inner scope s p =
     let layer : out-Statement (step_source (t.Break p)) ≡ Statement-F.Break p = search (rules, steps.the_lemmas, statements.the_lemmas) in
     ap (λ z. spec.statement_at depth inner scope z s) layer
 
 pub open_Continue : (depth : ℕ) (inner : Inner) (scope : Scope) (s : State) (p : Place)
-    → spec.opened depth inner scope (step_source (t.Continue p)) s ≡ spec.jump p Continue s
-unfolding spec.opened
+    → spec.run_statement depth inner scope (step_source (t.Continue p)) s ≡ spec.jump p Continue s
+unfolding spec.run_statement
 open_Continue depth inner scope s p =
     let layer : out-Statement (step_source (t.Continue p)) ≡ Statement-F.Continue p = search (rules, steps.the_lemmas, statements.the_lemmas) in
     ap (λ z. spec.statement_at depth inner scope z s) layer
 
 pub open_Simple : (depth : ℕ) (inner : Inner) (scope : Scope) (s : State) (x : Plain)
-    → spec.opened depth inner scope (step_source (t.Simple x)) s ≡ and_then (spec.simple depth scope (plain_source x) s) (λ _. pure Normal)
-unfolding spec.opened
+    → spec.run_statement depth inner scope (step_source (t.Simple x)) s ≡ and_then (spec.simple depth scope (plain_source x) s) (λ _. pure Normal)
+unfolding spec.run_statement
 open_Simple depth inner scope s x =
     let layer : out-Statement (step_source (t.Simple x)) ≡ Statement-F.Simple (plain_source x) = search (rules, steps.the_lemmas, statements.the_lemmas) in
     ap (λ z. spec.statement_at depth inner scope z s) layer

@@ -83,7 +83,7 @@ impl<F: Fn(Global, u64, &mut State, &Code, bool) -> Result<Target, Stop>> Expres
     }
 
     /// The value of an expression inside.
-    #[tactic(auto, unfolding(sync_meaning::specs::Expressions::value))]
+    #[tactic(auto, unfolding(sync_meaning::specs::Expressions::inner_value))]
     pub fn value(&self, state: &mut State, expr: &Code) -> Result<Value, Stop>
         requires { Nests self.now.depth (F.pre self.now.inner) (F.post self.now.inner) }
         ensures { DoesWhere (fits expr.now)
@@ -555,11 +555,11 @@ impl<F: Fn(Global, u64, &mut State, &Code, bool) -> Result<Target, Stop>> Expres
     }
 
     /// An expression: where it is called, as what the call calls.
-    #[tactic(auto, unfolding(sync_meaning::specs::Expressions::opened))]
+    #[tactic(auto, unfolding(sync_meaning::specs::Expressions::node_or_callee))]
     fn opened(&self, state: &mut State, expr: &Code, called: bool) -> Result<Target, Stop>
         requires { Nests self.now.depth (F.pre self.now.inner) (F.post self.now.inner) }
         ensures { DoesWhere (fits expr.now)
-            (λ scope. spec.opened (evaluated self.now.depth) called scope (source expr.now))
+            (λ scope. spec.node_or_callee (evaluated self.now.depth) called scope (source expr.now))
             state.old result state.new }
     {
         if called {

@@ -6,7 +6,7 @@ ghost use Rattle.sync_values.specs.Found.{Gives};
 ghost use Rattle.sync_values.specs.Values as values;
 ghost use Rattle.sync_meaning.specs.Acts.{Does};
 ghost use Rattle.sync_meaning.specs.Meaning as spec;
-ghost use Rattle.sync_meaning.specs.Variables.{written};
+ghost use Rattle.sync_meaning.specs.Variables.{variables_with};
 
 use crate::statement::{Statements, run};
 use json_doc::Doc;
@@ -39,7 +39,7 @@ fn write_document(
     doc: &Doc,
     variables: &mut Variables,
 ) -> Result<(), Memory>
-    ensures { OnOk result (variables.new ≡ written program.now.first.name 0
+    ensures { OnOk result (variables.new ≡ variables_with program.now.first.name 0
         (values.value_of (node_tree doc.now)) variables.old) }
 {
     let value = value_of(alloc, doc.as_node())?;
@@ -53,7 +53,7 @@ fn write_old(
     old: Option<&Doc>,
     variables: &mut Variables,
 ) -> Result<(), Memory>
-    ensures { OnOk result (variables.new ≡ written slot.now.name slot.now.number
+    ensures { OnOk result (variables.new ≡ variables_with slot.now.name slot.now.number
         (spec.value_before (option_map (λ doc. node_tree doc.now) old.entry)) variables.old) }
 {
     let value = value_before(alloc, old)?;

@@ -254,7 +254,7 @@ impl Parts {
     ) -> Result<(), Stop>
         ensures { DoesWhere (slot_fits held.now.slot)
             (λ scope. rests.assigned scope (held_source held.now)
-            (values.added held.now.place first.now second.now))
+            (values.added_values held.now.place first.now second.now))
             state.old result state.new }
     {
         let value = added(self.alloc, held.place, first, second)?;
@@ -377,7 +377,7 @@ impl Parts {
     /// The beginning of a `for`.
     pub fn start(&self, state: &mut State, start: &Option<Boxed<Begin>>) -> Result<(), Stop>
         ensures { DoesWhere (begin_or_none_fits start.now)
-            (λ scope. spec.start self.now.depth scope (begin_or_none start.now))
+            (λ scope. spec.run_start self.now.depth scope (begin_or_none start.now))
             state.old result state.new }
     {
         match start {
@@ -392,7 +392,7 @@ impl Parts {
     /// What a `for` does behind each round.
     pub fn step(&self, state: &mut State, step: &Option<Boxed<Plain>>) -> Result<(), Stop>
         ensures { DoesWhere (plain_or_none_fits step.now)
-            (λ scope. spec.step self.now.depth scope (plain_or_none step.now))
+            (λ scope. spec.run_step self.now.depth scope (plain_or_none step.now))
             state.old result state.new }
     {
         match step {

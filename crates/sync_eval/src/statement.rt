@@ -265,11 +265,11 @@ impl<F: Fn(Global, u64, &mut State, &Step) -> Result<Completion, Stop>> Statemen
         how
     }
 
-    #[tactic(auto, unfolding(sync_meaning::specs::Statements::opened))]
+    #[tactic(auto, unfolding(sync_meaning::specs::Statements::run_statement))]
     fn opened(&self, state: &mut State, step: &Step) -> Result<Completion, Stop>
         requires { NestsStep self.now.depth (F.pre self.now.inner) (F.post self.now.inner) }
         ensures { DoesWhere (step_fits step.now)
-            (λ scope. spec.opened self.now.depth (run self.now.depth) scope (step_source step.now))
+            (λ scope. spec.run_statement self.now.depth (run self.now.depth) scope (step_source step.now))
             state.old result state.new }
     {
         match step {

@@ -24,10 +24,10 @@ use Rattle.sync_values.specs.declared.value.Value.{Value, out-Value}
 use Rattle.sync_values.specs.declared.value.Value.TheOpen.{Value-F}
 use Rattle.sync_values.specs.declared.value.Value.TheVariants as v
 use Rattle.sync_values.specs.Found.{Found, fails, type_fault, denial}
-use Rattle.sync_values.specs.Values.{Layer, found_then, truth_at, truth, bounded, joined, added_at, added, integer_at, integer_in, calculated, negated, compared_at, compared, is_nothing, is_alike, same, loosely_equal, cannot_equal, strictly_equal, truth_value, not_that, ordered, combined, prefixed, member_at, member, indexed_at, indexed, listed, index_at, index_of, concat_at, concat, begins_at, begins_with, can_be_sought, by_method}
+use Rattle.sync_values.specs.Values.{Layer, found_then, truth_at, truth, bounded, joined_texts, added_at, added_values, integer_at, integer_in, calculated, negated, compared_at, compared, is_nothing, is_alike, same, loosely_equal, cannot_equal, strictly_equal, truth_value, not_that, ordered, combined, prefixed, member_at, member, indexed_at, indexed, listed_values, index_at, index_of, concat_at, concat, begins_at, text_begins_with, can_be_sought, by_method}
 use Rattle.sync_meaning.specs.declared.effects.Effects.{Effects}
 use Rattle.sync_meaning.specs.declared.state.State.{State}
-use Rattle.sync_meaning.specs.Builtins.{texts_or, texts_in, argument_at, one, named_from, named, names_in, itself, bare_role, grantee_of, users_in, roles_in, channels_in, grantees_in, all_channels, within, effect_count, add_channel, add_grant, add_role, for_each, add_channels, add_grants_to, add_grants, add_roles_to, add_roles, with_effects, unless_passing, passes_user, passes_role, passes_access, passes_admin, channel, access, role, require_user, require_role, require_access, require_admin, built_in}
+use Rattle.sync_meaning.specs.Builtins.{texts_or, texts_in, argument_at, one, named_from, named, names_in, itself, bare_role, grantee_of, users_in, roles_in, channels_in, grantees_in, all_channels, within_limits, effect_count, add_channel, add_grant, add_role, for_each, add_channels, add_grants_to, add_grants, add_roles_to, add_roles, with_effects, unless_passing, passes_user, passes_role, passes_access, passes_admin, channel, access, role, require_user, require_role, require_access, require_admin, built_in}
 use Rattle.sync_meaning.specs.Expressions.{as_value}
 use Rattle.sync_meaning.specs.Statements.{items_at, items_in, one_more, forbidden_in, thrown_by, thrown}
 use Rattle.sync_meaning.specs.Laws.{placeless_stop, placeless}
@@ -91,8 +91,8 @@ module _ (p q : Place) where
   unfolding bounded
   bounded-alike z = if_alike (is_safe z) (Ok (v.Integer z)) (fails Range p) (Ok (v.Integer z)) (fails Range q) refl refl
 
-  joined-alike : (x y : List ℕ) → Alike (joined p x y) (joined q x y)
-  unfolding joined
+  joined-alike : (x y : List ℕ) → Alike (joined_texts p x y) (joined_texts q x y)
+  unfolding joined_texts
   joined-alike x y = if_alike (nat_lt 4096 (length x + length y)) (fails Size p) (Ok (v.Text (x ++ y))) (fails Size q) (Ok (v.Text (x ++ y))) refl refl
 
   added_at-alike : (l k : Layer) → Alike (added_at p l k) (added_at q l k)
@@ -102,8 +102,8 @@ module _ (p q : Place) where
   added_at-alike (Value-F.Integer x) (Value-F.Text y) = joined-alike _ y
   added_at-alike _ _ = refl
 
-  pub added-alike : (x y : Value) → Alike (added p x y) (added q x y)
-  unfolding added
+  pub added-alike : (x y : Value) → Alike (added_values p x y) (added_values q x y)
+  unfolding added_values
   added-alike x y = added_at-alike (out-Value x) (out-Value y)
 
   integer_at-alike : (l : Layer) → Alike (integer_at p l) (integer_at q l)
@@ -200,8 +200,8 @@ module _ (p q : Place) where
   unfolding indexed
   indexed-alike x i = indexed_at-alike (out-Value x) (out-Value i)
 
-  pub listed-alike : (xs : List Value) → Alike (listed p xs) (listed q xs)
-  unfolding listed
+  pub listed-alike : (xs : List Value) → Alike (listed_values p xs) (listed_values q xs)
+  unfolding listed_values
   listed-alike xs = if_alike (nat_lt 1024 (length xs)) (fails Size p) (Ok (v.List xs)) (fails Size q) (Ok (v.List xs)) refl refl
 
   index_at-alike : (l : Layer) (x : Value) → Alike (index_at p l x) (index_at q l x)
@@ -224,8 +224,8 @@ module _ (p q : Place) where
   begins_at-alike (Value-F.Text x) (Value-F.Text y) = refl
   begins_at-alike _ _ = refl
 
-  begins-alike : (x y : Value) → Alike (begins_with p x y) (begins_with q x y)
-  unfolding begins_with
+  begins-alike : (x y : Value) → Alike (text_begins_with p x y) (text_begins_with q x y)
+  unfolding text_begins_with
   begins-alike x y = begins_at-alike (out-Value x) (out-Value y)
 
   pub by_method-alike : (how : Method) (x : Value) (ys : List Value) → Alike (by_method p how x ys) (by_method q how x ys)
@@ -296,8 +296,8 @@ module _ (p q : Place) where
   all_channels-alike found (x ∷ xs) =
       then_alike (channels_in p x) (channels_in q x) (λ cs. all_channels p (found ++ cs) xs) (λ cs. all_channels q (found ++ cs) xs) (channels-alike x) (λ cs. all_channels-alike (found ++ cs) xs)
 
-  within-alike : (e : Effects) → Alike (within p e) (within q e)
-  unfolding within
+  within-alike : (e : Effects) → Alike (within_limits p e) (within_limits q e)
+  unfolding within_limits
   within-alike e = if_alike (nat_lt 1000 (effect_count e)) (fails Size p) (Ok e) (fails Size q) (Ok e) refl refl
 
   add_channel-alike : (c : List ℕ) (e : Effects) → Alike (add_channel p c e) (add_channel q c e)

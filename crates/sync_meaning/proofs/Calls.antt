@@ -16,7 +16,7 @@ use Rattle.sync_values.specs.Values.{found_then}
 use Rattle.sync_meaning.specs.declared.state.Context.{Context}
 use Rattle.sync_meaning.specs.declared.state.State.{State}
 use Rattle.sync_meaning.specs.Acts.{Does}
-use Rattle.sync_meaning.specs.Builtins.{texts_in, itself, bare_role, grantee_of, names_in, users_in, roles_in, channels_in, all_channels, is_in, share_one, or_administrator, passes_user, passes_role, passes_access, unless_passing, with_effects, for_each, add_channels, add_grants, add_roles, channel, access, role, require_user, require_role, require_access}
+use Rattle.sync_meaning.specs.Builtins.{texts_in, itself, bare_role, grantee_of, names_in, users_in, roles_in, channels_in, all_channels, is_one_of, share_one, or_administrator, passes_user, passes_role, passes_access, unless_passing, with_effects, for_each, add_channels, add_grants, add_roles, channel, access, role, require_user, require_role, require_access}
 use Rattle.sync_meaning.specs.inner.Arguments.{texts, AreSame, AreFound, add_channel_named, add_grants_named_to, add_roles_named_to}
 use Rattle.sync_meaning.proofs.Named.{AllFound, texts-all, all_channels-all, channels_added, grants_added, roles_added, grantees_by_texts}
 
@@ -42,20 +42,20 @@ or_swap false true false d = refl
 or_swap false false c d = refl
 
 -- one name more among those that are looked for
-one_more : (x : List ℕ) (xs ys : List (List ℕ)) → share_one ys (x ∷ xs) ≡ (is_in ys x || share_one ys xs)
+one_more : (x : List ℕ) (xs ys : List (List ℕ)) → share_one ys (x ∷ xs) ≡ (is_one_of ys x || share_one ys xs)
 one_more x xs [] = refl
 one_more x xs (y ∷ ys) =
-    ap (λ (b : Bool). (b || is_in xs y) || share_one ys (x ∷ xs)) (bytes_turned y x)
-    ∙ ap (λ (b : Bool). (bytes_eq x y || is_in xs y) || b) (one_more x xs ys)
-    ∙ or_swap (bytes_eq x y) (is_in xs y) (is_in ys x) (share_one ys xs)
+    ap (λ (b : Bool). (b || is_one_of xs y) || share_one ys (x ∷ xs)) (bytes_turned y x)
+    ∙ ap (λ (b : Bool). (bytes_eq x y || is_one_of xs y) || b) (one_more x xs ys)
+    ∙ or_swap (bytes_eq x y) (is_one_of xs y) (is_one_of ys x) (share_one ys xs)
 
 pub share_turned : (xs ys : List (List ℕ)) → share_one xs ys ≡ share_one ys xs
 share_turned [] ys = sym (none_shared ys)
-share_turned (x ∷ xs) ys = ap (λ (b : Bool). is_in ys x || b) (share_turned xs ys) ∙ sym (one_more x xs ys)
+share_turned (x ∷ xs) ys = ap (λ (b : Bool). is_one_of ys x || b) (share_turned xs ys) ∙ sym (one_more x xs ys)
 
 among_same : (xs ys all : List (List ℕ)) → AreSame xs ys → share_one all xs ≡ share_one all ys
 among_same xs ys [] same = refl
-among_same xs ys (x ∷ all) same = ap (λ (b : Bool). b || share_one all xs) (same x) ∙ ap (λ (b : Bool). is_in ys x || b) (among_same xs ys all same)
+among_same xs ys (x ∷ all) same = ap (λ (b : Bool). b || share_one all xs) (same x) ∙ ap (λ (b : Bool). is_one_of ys x || b) (among_same xs ys all same)
 
 share_same : (xs ys all : List (List ℕ)) → AreSame xs ys → share_one xs all ≡ share_one ys all
 share_same xs ys all same = share_turned xs all ∙ among_same xs ys all same ∙ share_turned all ys
@@ -80,13 +80,13 @@ pub role_passes : (c : Context) (user : List ℕ) (roles : List (List ℕ)) (b :
 unfolding passes_role
 role_passes c user roles b is e = e ∙ share_turned c.roles roles ∙ sym (ap (λ u. or_administrator u (share_one roles c.roles)) is)
 
-pub access_passes : (c : Context) (user : List ℕ) (channels : List (List ℕ)) (b : Bool) → c.user ≡ Some user → is_in c.channels (codes "*") ≡ false
+pub access_passes : (c : Context) (user : List ℕ) (channels : List (List ℕ)) (b : Bool) → c.user ≡ Some user → is_one_of c.channels (codes "*") ≡ false
     → b ≡ share_one c.channels channels → b ≡ passes_access c channels
 unfolding passes_access
 access_passes c user channels b is star e =
     e ∙ share_turned c.channels channels
     ∙ ap (λ (d : Bool). d || share_one channels c.channels) (sym star)
-    ∙ sym (ap (λ u. or_administrator u (is_in c.channels (codes "*") || share_one channels c.channels)) is)
+    ∙ sym (ap (λ u. or_administrator u (is_one_of c.channels (codes "*") || share_one channels c.channels)) is)
 
 -- ---- calls
 

@@ -31,7 +31,7 @@ use Rattle.sync_meaning.specs.declared.state.Context.{Context}
 use Rattle.sync_meaning.specs.declared.state.State.{State}
 use Rattle.sync_meaning.specs.Acts.{Act, and_then, in_state, ◌>>=◌, lift, visits, out_of_visits}
 use Rattle.sync_meaning.specs.Variables.{top}
-use Rattle.sync_meaning.specs.Builtins.{named_from, named, texts_in, itself, bare_role, grantee_of, users_in, roles_in, channels_in, grantees_in, all_channels, put, effect_count, within, add_channel, add_grant, add_role, for_each, add_channels, add_grants_to, add_grants, add_roles_to, add_roles, with_effects, unless_passing, passes_user, passes_role, passes_access, passes_admin, channel, access, role, require_user, require_role, require_access, require_admin, built_in}
+use Rattle.sync_meaning.specs.Builtins.{named_from, named, texts_in, itself, bare_role, grantee_of, users_in, roles_in, channels_in, grantees_in, all_channels, put, effect_count, within_limits, add_channel, add_grant, add_role, for_each, add_channels, add_grants_to, add_grants, add_roles_to, add_roles, with_effects, unless_passing, passes_user, passes_role, passes_access, passes_admin, channel, access, role, require_user, require_role, require_access, require_admin, built_in}
 use Rattle.sync_meaning.specs.Expressions.{read}
 use Rattle.sync_meaning.specs.Statements.{store, run}
 use Rattle.sync_meaning.specs.Meaning.{body, begin, depth_for, gathered, meaning_within}
@@ -78,8 +78,8 @@ unless_many : (c : Bool) (p : Place) (e : Effects) → (c ≡ false → AreEffec
 unless_many true p e h = tt
 unless_many false p e h = h refl
 
-within-found : (p : Place) (e : Effects) → is_channels e.channels ≡ true → is_grants e.grants ≡ true → is_role_grants e.roles ≡ true → AreFound (within p e)
-unfolding within
+within-found : (p : Place) (e : Effects) → is_channels e.channels ≡ true → is_grants e.grants ≡ true → is_role_grants e.roles ≡ true → AreFound (within_limits p e)
+unfolding within_limits
 within-found p e cs gs rs =
     unless_many (nat_lt 1000 (effect_count e)) p e (λ h. record { channels = cs; grants = gs; roles = rs; few = ltb-false 1000 (effect_count e) h })
 

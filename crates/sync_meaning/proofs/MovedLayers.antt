@@ -8,7 +8,7 @@ use Rattle.sync_syntax.specs.declared.tree.Suffix.{Suffix, out-Suffix}
 use Rattle.sync_syntax.specs.declared.tree.Statement.{Statement, out-Statement}
 use Rattle.sync_syntax.specs.declared.tree.Statement.TheOpen.{Statement-F}
 use Rattle.sync_syntax.specs.declared.tree.Statement as statements
-use Rattle.sync_meaning.specs.Expressions.{Layer, SuffixLayer}
+use Rattle.sync_meaning.specs.Expressions.{ExprLayer, SuffixLayer}
 use Rattle.sync_meaning.specs.Statements.{StatementLayer}
 use Rattle.sync_syntax.specs.Moved.{moved_expr, moved_suffix, moved_named, moved_declaration, moved_simple, moved_start, moved_statement}
 
@@ -19,7 +19,7 @@ module _ (f : Place → Place) where
   abbrev pub moved_tail : Operator × Expr → Operator × Expr
   moved_tail o = (o.0, moved_expr f o.1)
 
-  abbrev pub moved_layer : Layer → Layer
+  abbrev pub moved_layer : ExprLayer → ExprLayer
   moved_layer (Expr-F.Undefined p) = Expr-F.Undefined (f p)
   moved_layer (Expr-F.Null p) = Expr-F.Null (f p)
   moved_layer (Expr-F.Bool p b) = Expr-F.Bool (f p) b

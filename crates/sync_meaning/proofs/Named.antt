@@ -22,7 +22,7 @@ use Rattle.sync_values.specs.declared.value.Value.{Value}
 use Rattle.sync_values.specs.Found.{Found, fails}
 use Rattle.sync_values.specs.Values.{found_then}
 use Rattle.sync_meaning.specs.declared.effects.Effects.{Effects}
-use Rattle.sync_meaning.specs.Builtins.{put, stripped, role_in, bare_role, grantee_by, grantee_of, itself, one, named_from, named, names_in, texts_in, users_in, roles_in, channels_in, grantees_in, all_channels, is_in, within, effect_count, for_each, add_channel, add_channels, add_grant, add_grants_to, add_grants, add_role, add_roles_to, add_roles}
+use Rattle.sync_meaning.specs.Builtins.{put, stripped, role_behind, bare_role, grantee_by, grantee_of, itself, one, named_from, named, names_in, texts_in, users_in, roles_in, channels_in, grantees_in, all_channels, is_one_of, within_limits, effect_count, for_each, add_channel, add_channels, add_grant, add_grants_to, add_grants, add_role, add_roles_to, add_roles}
 use Rattle.sync_meaning.specs.inner.Arguments.{AreSame, add_channel_named, grant_named, add_grant_named, add_grants_named_to, role_grant_named, add_role_named, add_roles_named_to}
 use Rattle.sync_meaning.proofs.Puts.{put_grows, put_once, put_commutes}
 use Rattle.sync_meaning.proofs.Sets.{first_in, more_in, IsPut, ArePut, for_each_same, for_each_alike, for_both_same}
@@ -67,7 +67,7 @@ grantee_text_by t (Some r) h = h r refl
 grantee_text_by t None h = refl
 
 grantee_text_is : (t : List ℕ) → grantee_text (grantee_of t) ≡ t
-unfolding role_in
+unfolding role_behind
 grantee_text_is t = grantee_text_by t (stripped (codes "role:") t) (λ r e. put_back (codes "role:") t r e)
 
 both : (a b : Bool) → a ≡ true → b ≡ true → (a && b) ≡ true
@@ -173,15 +173,15 @@ roles_put = record {
   grows = λ t c e. omega (arith, put_grows role_grant_cmp (role_by t c) e.roles);
 }
 
-channel_within : (p : Place) (c : List ℕ) (e : Effects) → add_channel p c e ≡ within p (with_channel c e)
+channel_within : (p : Place) (c : List ℕ) (e : Effects) → add_channel p c e ≡ within_limits p (with_channel c e)
 unfolding add_channel
 channel_within p c e = refl
 
-grant_within : (p : Place) (t c : List ℕ) (e : Effects) → add_grant p (grantee_of t) c e ≡ within p (with_grant t c e)
+grant_within : (p : Place) (t c : List ℕ) (e : Effects) → add_grant p (grantee_of t) c e ≡ within_limits p (with_grant t c e)
 unfolding add_grant
 grant_within p t c e = refl
 
-role_within : (p : Place) (u r : List ℕ) (e : Effects) → add_role p u r e ≡ within p (with_role u r e)
+role_within : (p : Place) (u r : List ℕ) (e : Effects) → add_role p u r e ≡ within_limits p (with_role u r e)
 unfolding add_role
 role_within p u r e = refl
 
@@ -205,16 +205,16 @@ right : (a b : Bool) → (a && b) ≡ true → b ≡ true
 right true b i = i
 right false b i = absurd (false≢true i)
 
-has_by : (b : Bool) (is : List ℕ → Bool) (x y : List ℕ) (ys : List (List ℕ)) → bytes_eq x y ≡ b → list_all is (y ∷ ys) ≡ true → (b || is_in ys x) ≡ true
-    → (list_all is ys ≡ true → is_in ys x ≡ true → is x ≡ true) → is x ≡ true
+has_by : (b : Bool) (is : List ℕ → Bool) (x y : List ℕ) (ys : List (List ℕ)) → bytes_eq x y ≡ b → list_all is (y ∷ ys) ≡ true → (b || is_one_of ys x) ≡ true
+    → (list_all is ys ≡ true → is_one_of ys x ≡ true → is x ≡ true) → is x ≡ true
 has_by true is x y ys same all i further = ap is ((bytes_decides x y).0 same) ∙ left (is y) (list_all is ys) all
 has_by false is x y ys same all i further = further (right (is y) (list_all is ys) all) i
 
-has_all : (is : List ℕ → Bool) (xs : List (List ℕ)) (x : List ℕ) → list_all is xs ≡ true → is_in xs x ≡ true → is x ≡ true
+has_all : (is : List ℕ → Bool) (xs : List (List ℕ)) (x : List ℕ) → list_all is xs ≡ true → is_one_of xs x ≡ true → is x ≡ true
 has_all is [] x all h = absurd (false≢true h)
 has_all is (y ∷ ys) x all h = has_by (bytes_eq x y) is x y ys refl all h (has_all is ys x)
 
-all_have : (is : List ℕ → Bool) (ys : List (List ℕ)) → ((x : List ℕ) → is_in ys x ≡ true → is x ≡ true) → list_all is ys ≡ true
+all_have : (is : List ℕ → Bool) (ys : List (List ℕ)) → ((x : List ℕ) → is_one_of ys x ≡ true → is x ≡ true) → list_all is ys ≡ true
 all_have is [] h = refl
 all_have is (y ∷ ys) h = both (is y) (list_all is ys) (h y (first_in y ys)) (all_have is ys (λ x i. h x (more_in y x ys i)))
 

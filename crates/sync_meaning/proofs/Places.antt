@@ -27,14 +27,14 @@ use Rattle.sync_values.specs.declared.fault.RuleKind.TheVariants as rules
 use Rattle.sync_values.specs.declared.value.Value.{Value}
 use Rattle.sync_values.specs.declared.value.Value.TheVariants as v
 use Rattle.sync_values.specs.Found.{Found, type_fault, denial}
-use Rattle.sync_values.specs.Values.{truth, combined, prefixed, member, indexed, listed, same_truth, by_method}
+use Rattle.sync_values.specs.Values.{truth, combined, prefixed, member, indexed, listed_values, same_truth, by_method}
 use Rattle.sync_meaning.specs.declared.completion.Completion.{Completion}
 use Rattle.sync_meaning.specs.declared.completion.Completion.TheVariants.{Normal, Break, Continue, Return}
 use Rattle.sync_meaning.specs.declared.scope.Scope.{Scope}
 use Rattle.sync_meaning.specs.declared.state.State.{State}
 use Rattle.sync_meaning.specs.Acts.{Act, and_then, in_state, ◌>>=◌, pure, lift, visits, out_of_visits}
 use Rattle.sync_meaning.specs.Variables.{top, new_number, declared, started, behind}
-use Rattle.sync_meaning.specs.Expressions.{place_of, called_by, method_of, is_call_at, is_called, is_array_name, is_array_name_at, is_array_member, is_array_member_at, calls_is_array, without_first, ends_node, ends_node_at, node_count, as_value, read, name, literal, call_by, member_or_method, Layer, SuffixLayer, value, values, values_from, members, members_from, list, object, prefix, decided, operated, operation, operations, chain, choice, call, index, suffix_at, suffix, suffixes, postfix, postfix_value, node_at, node, callee_at, callee, opened, evaluated, value_to}
+use Rattle.sync_meaning.specs.Expressions.{place_of, called_by, method_of, is_call_at, is_called, is_array_name, is_array_name_at, is_array_member, is_array_member_at, calls_is_array, without_first, ends_node, ends_node_at, node_count, as_value, read, name, literal, call_by, member_or_method, ExprLayer, SuffixLayer, inner_value, values, values_from, members, members_from, list, object, prefix, decided, operated, operation, operations, chain, choice, call, index, suffix_at, suffix, suffixes, postfix, postfix_value, node_at, node, callee_at, callee, node_or_callee, evaluated, value_to}
 use Rattle.sync_meaning.specs.Statements as s
 use Rattle.sync_meaning.specs.Statements.{store, assign, count, jump, thrown, place_of_simple, StatementLayer, after_normal, after_round, run}
 use Rattle.sync_meaning.specs.Meaning.{body, begin, no_effects, depth_for, gathered, meaning_within, parameters, with_second, value_before}
@@ -133,7 +133,7 @@ module _ (f : Place → Place) where
   node_count-moved c [] = refl
   node_count-moved c (l ∷ ls) = rw (is_called-moved c ls, ends_node-moved (is_called c ls) l, node_count-moved c ls) refl
 
-  is_array_name_at-moved : (l : Layer) → is_array_name_at (moved_layer f l) ≡ is_array_name_at l
+  is_array_name_at-moved : (l : ExprLayer) → is_array_name_at (moved_layer f l) ≡ is_array_name_at l
   is_array_name_at-moved (Expr-F.Name p n) = refl
   is_array_name_at-moved (Expr-F.Undefined p) = refl
   is_array_name_at-moved (Expr-F.Null p) = refl
@@ -173,8 +173,8 @@ module _ (f : Place → Place) where
   -- ---- expressions
 
   module _ (inner other : Bool → Scope → Expr → Act Target) (same : (called : Bool) (scope : Scope) (e : Expr) → Same (inner called scope e) (other called scope (moved_expr f e))) where
-    value-same : (scope : Scope) (e : Expr) → Same (value inner scope e) (value other scope (moved_expr f e))
-    unfolding value
+    value-same : (scope : Scope) (e : Expr) → Same (inner_value inner scope e) (inner_value other scope (moved_expr f e))
+    unfolding inner_value
     value-same scope e = bound _ _ _ _ (same false scope e) (λ x. lifted (as_value (place_of e) x) (as_value (place_of (moved_expr f e)) x) (as_value-alike _ _ x))
 
     values_from-same : (scope : Scope) (found : List Value) (es : List Expr) → Same (values_from inner scope found es) (values_from other scope found (map (moved_expr f) es))
@@ -195,7 +195,7 @@ module _ (f : Place → Place) where
 
     list-same : (scope : Scope) (p q : Place) (es : List Expr) → Same (list inner scope p es) (list other scope q (map (moved_expr f) es))
     unfolding list
-    list-same scope p q es = bound _ _ _ _ (visited 1 p q) (λ u. bound _ _ _ _ (values-same scope es) (λ xs. lifted (listed p xs) (listed q xs) (listed-alike p q xs)))
+    list-same scope p q es = bound _ _ _ _ (visited 1 p q) (λ u. bound _ _ _ _ (values-same scope es) (λ xs. lifted (listed_values p xs) (listed_values q xs) (listed-alike p q xs)))
 
     object-same : (scope : Scope) (p q : Place) (es : List (List ℕ × Expr)) → Same (object inner scope p es) (object other scope q (map (moved_member f) es))
     unfolding object
@@ -285,7 +285,7 @@ module _ (f : Place → Place) where
     unfolding postfix_value
     postfix_value-same scope first ss = bound _ _ _ _ (postfix-same false scope first ss) (λ x. lifted _ _ (as_value-alike _ _ x))
 
-    node_at-same : (scope : Scope) (l : Layer) → Same (node_at inner scope l) (node_at other scope (moved_layer f l))
+    node_at-same : (scope : Scope) (l : ExprLayer) → Same (node_at inner scope l) (node_at other scope (moved_layer f l))
     node_at-same scope (Expr-F.Undefined p) = literal-same p (f p) _ _ refl
     node_at-same scope (Expr-F.Null p) = literal-same p (f p) _ _ refl
     node_at-same scope (Expr-F.Bool p c) = literal-same p (f p) _ _ refl
@@ -303,7 +303,7 @@ module _ (f : Place → Place) where
     unfolding node
     node-same scope e = subst (λ l. Same (node_at inner scope (out-Expr e)) (node_at other scope l)) (sym (out-moved_expr f e)) (node_at-same scope (out-Expr e))
 
-    callee_at-same : (scope : Scope) (l : Layer) → Same (callee_at inner scope l) (callee_at other scope (moved_layer f l))
+    callee_at-same : (scope : Scope) (l : ExprLayer) → Same (callee_at inner scope l) (callee_at other scope (moved_layer f l))
     callee_at-same scope (Expr-F.Name p n) = given (called_by n)
     callee_at-same scope (Expr-F.Postfix first ss) = postfix-same true scope first ss
     callee_at-same scope (Expr-F.Undefined p) = given t.Nothing
@@ -321,8 +321,8 @@ module _ (f : Place → Place) where
     unfolding callee
     callee-same scope e = subst (λ l. Same (callee_at inner scope (out-Expr e)) (callee_at other scope l)) (sym (out-moved_expr f e)) (callee_at-same scope (out-Expr e))
 
-    opened-same : (called : Bool) (scope : Scope) (e : Expr) → Same (opened inner called scope e) (opened other called scope (moved_expr f e))
-    unfolding opened
+    opened-same : (called : Bool) (scope : Scope) (e : Expr) → Same (node_or_callee inner called scope e) (node_or_callee other called scope (moved_expr f e))
+    unfolding node_or_callee
     opened-same called scope e = either called _ _ _ _ (callee-same scope e) (bound _ _ _ _ (node-same scope e) (λ x. given (t.Value x)))
 
   evaluated-same : (n : ℕ) (called : Bool) (scope : Scope) (e : Expr) → Same (evaluated n called scope e) (evaluated n called scope (moved_expr f e))
@@ -405,12 +405,12 @@ module _ (f : Place → Place) where
     holds-same scope p q None = given true
     holds-same scope p q (Some c) = is_true-same scope p q c
 
-    start-same : (scope : Scope) (x : Option Start) → Same (s.start n scope x) (s.start n scope (option_map (moved_start f) x))
+    start-same : (scope : Scope) (x : Option Start) → Same (s.run_start n scope x) (s.run_start n scope (option_map (moved_start f) x))
     start-same scope None = given tt
     start-same scope (Some (starts.Declare d)) = declare-same scope d
     start-same scope (Some (starts.Simple x)) = simple-same scope x
 
-    step-same : (scope : Scope) (x : Option Simple) → Same (s.step n scope x) (s.step n scope (option_map (moved_simple f) x))
+    step-same : (scope : Scope) (x : Option Simple) → Same (s.run_step n scope x) (s.run_step n scope (option_map (moved_simple f) x))
     step-same scope None = given tt
     step-same scope (Some x) = simple-same scope x
 
@@ -510,8 +510,8 @@ module _ (f : Place → Place) where
       statement_at-same scope (Statement-F.Continue p) = jump-same p (f p) Continue
       statement_at-same scope (Statement-F.Simple x) = normally-same _ _ (simple-same scope x)
 
-      opened_statement-same : (scope : Scope) (x : Statement) → Same (s.opened n inner scope x) (s.opened n other scope (moved_statement f x))
-      unfolding s.opened
+      opened_statement-same : (scope : Scope) (x : Statement) → Same (s.run_statement n inner scope x) (s.run_statement n other scope (moved_statement f x))
+      unfolding s.run_statement
       opened_statement-same scope x =
           subst (λ l. Same (s.statement_at n inner scope (out-Statement x)) (s.statement_at n other scope l)) (sym (out-moved_statement f x)) (statement_at-same scope (out-Statement x))
 

@@ -25,14 +25,14 @@ use Rattle.sync_values.specs.declared.callee.Target.TheVariants as t
 use Rattle.sync_values.specs.declared.value.Value.{Value}
 use Rattle.sync_values.specs.declared.value.Value.TheVariants as v
 use Rattle.sync_values.specs.Found.{Found, type_fault}
-use Rattle.sync_values.specs.Values.{truth, combined, prefixed, member, indexed, listed, same_truth, added, by_method}
+use Rattle.sync_values.specs.Values.{truth, combined, prefixed, member, indexed, listed_values, same_truth, added_values, by_method}
 use Rattle.sync_meaning.specs.declared.completion.Completion.{Completion}
 use Rattle.sync_meaning.specs.declared.completion.Completion.TheVariants.{Normal, Break, Continue, Return}
 use Rattle.sync_meaning.specs.declared.scope.Scope.{Scope}
 use Rattle.sync_meaning.specs.Acts.{Act, ◌>>=◌, pure, lift, visits, out_of_visits}
 use Rattle.sync_meaning.specs.Variables.{new_number, declared, started, behind}
 use Rattle.sync_meaning.specs.Builtins.{built_in}
-use Rattle.sync_meaning.specs.Expressions.{place_of, called_by, method_of, is_called, calls_is_array, without_first, node_count, as_value, read, name, literal, call_by, member_or_method, Layer, SuffixLayer, value, values, values_from, members, members_from, list, object, prefix, decided, operated, operation, operations, chain, choice, call, index, suffix_at, suffix, suffixes, postfix, postfix_value, node_at, node, callee_at, callee, opened, evaluated, value_to}
+use Rattle.sync_meaning.specs.Expressions.{place_of, called_by, method_of, is_called, calls_is_array, without_first, node_count, as_value, read, name, literal, call_by, member_or_method, ExprLayer, SuffixLayer, inner_value, values, values_from, members, members_from, list, object, prefix, decided, operated, operation, operations, chain, choice, call, index, suffix_at, suffix, suffixes, postfix, postfix_value, node_at, node, callee_at, callee, node_or_callee, evaluated, value_to}
 use Rattle.sync_meaning.specs.Statements as s
 use Rattle.sync_meaning.specs.Statements.{store, assign, one_more, count, jump, thrown, items_in, place_of_simple, StatementLayer, after_normal, after_round, run}
 
@@ -79,8 +79,8 @@ module _ (L : Relation) where
 
   -- Evaluating inside is related.
   module _ (inner other : Bool → Scope → Expr → Act Target) (related : (called : Bool) (scope : Scope) (e : Expr) → R (inner called scope e) (other called scope e)) where
-    value-related : (scope : Scope) (e : Expr) → R (value inner scope e) (value other scope e)
-    unfolding value
+    value-related : (scope : Scope) (e : Expr) → R (inner_value inner scope e) (inner_value other scope e)
+    unfolding inner_value
     value-related scope e = bound _ _ _ _ (related false scope e) (λ x. lifted (as_value (place_of e) x))
 
     values_from-related : (scope : Scope) (found : List Value) (es : List Expr) → R (values_from inner scope found es) (values_from other scope found es)
@@ -101,7 +101,7 @@ module _ (L : Relation) where
 
     list-related : (scope : Scope) (p : Place) (es : List Expr) → R (list inner scope p es) (list other scope p es)
     unfolding list
-    list-related scope p es = bound _ _ _ _ (visited 1 p) (λ u. bound _ _ _ _ (values-related scope es) (λ xs. lifted (listed p xs)))
+    list-related scope p es = bound _ _ _ _ (visited 1 p) (λ u. bound _ _ _ _ (values-related scope es) (λ xs. lifted (listed_values p xs)))
 
     object-related : (scope : Scope) (p : Place) (es : List (List ℕ × Expr)) → R (object inner scope p es) (object other scope p es)
     unfolding object
@@ -173,7 +173,7 @@ module _ (L : Relation) where
     unfolding postfix_value
     postfix_value-related scope first ss = bound _ _ _ _ (postfix-related false scope first ss) (λ x. lifted (as_value (place_of first) x))
 
-    node_at-related : (scope : Scope) (l : Layer) → R (node_at inner scope l) (node_at other scope l)
+    node_at-related : (scope : Scope) (l : ExprLayer) → R (node_at inner scope l) (node_at other scope l)
     node_at-related scope (Expr-F.Undefined p) = literal-related p _
     node_at-related scope (Expr-F.Null p) = literal-related p _
     node_at-related scope (Expr-F.Bool p b) = literal-related p _
@@ -191,7 +191,7 @@ module _ (L : Relation) where
     unfolding node
     node-related scope e = node_at-related scope (out-Expr e)
 
-    callee_at-related : (scope : Scope) (l : Layer) → R (callee_at inner scope l) (callee_at other scope l)
+    callee_at-related : (scope : Scope) (l : ExprLayer) → R (callee_at inner scope l) (callee_at other scope l)
     callee_at-related scope (Expr-F.Name p n) = given (called_by n)
     callee_at-related scope (Expr-F.Postfix first ss) = postfix-related true scope first ss
     callee_at-related scope _ = given t.Nothing
@@ -200,8 +200,8 @@ module _ (L : Relation) where
     unfolding callee
     callee-related scope e = callee_at-related scope (out-Expr e)
 
-    opened-related : (called : Bool) (scope : Scope) (e : Expr) → R (opened inner called scope e) (opened other called scope e)
-    unfolding opened
+    opened-related : (called : Bool) (scope : Scope) (e : Expr) → R (node_or_callee inner called scope e) (node_or_callee other called scope e)
+    unfolding node_or_callee
     opened-related called scope e = either called _ _ _ _ (callee-related scope e) (bound _ _ _ _ (node-related scope e) (λ x. given (t.Value x)))
 
   -- an expression to a depth, and to the same or a greater one
@@ -249,7 +249,7 @@ module _ (L : Relation) where
     add_to-related : (scope : Scope) (x : Named) (e : Expr) → R (s.add_to n scope x e) (s.add_to (n + j) scope x e)
     unfolding s.add_to
     add_to-related scope x e =
-        bound _ _ _ _ (seen scope x.name) (λ a. bound _ _ _ _ (value_to-related scope e) (λ b. bound _ _ _ _ (lifted (added x.place a b)) (λ z. assigned scope x.name z)))
+        bound _ _ _ _ (seen scope x.name) (λ a. bound _ _ _ _ (value_to-related scope e) (λ b. bound _ _ _ _ (lifted (added_values x.place a b)) (λ z. assigned scope x.name z)))
 
     subtract_from-related : (scope : Scope) (x : Named) (e : Expr) → R (s.subtract_from n scope x e) (s.subtract_from (n + j) scope x e)
     unfolding s.subtract_from
@@ -288,12 +288,12 @@ module _ (L : Relation) where
     holds-related scope p None = given true
     holds-related scope p (Some c) = is_true-related scope p c
 
-    start-related : (scope : Scope) (x : Option Start) → R (s.start n scope x) (s.start (n + j) scope x)
+    start-related : (scope : Scope) (x : Option Start) → R (s.run_start n scope x) (s.run_start (n + j) scope x)
     start-related scope None = given tt
     start-related scope (Some (starts.Declare d)) = declare-related scope d
     start-related scope (Some (starts.Simple x)) = simple-related scope x
 
-    step-related : (scope : Scope) (x : Option Simple) → R (s.step n scope x) (s.step (n + j) scope x)
+    step-related : (scope : Scope) (x : Option Simple) → R (s.run_step n scope x) (s.run_step (n + j) scope x)
     step-related scope None = given tt
     step-related scope (Some x) = simple-related scope x
 
@@ -390,8 +390,8 @@ module _ (L : Relation) where
       statement_at-related scope (Statement-F.Continue p) = jump-related p Continue
       statement_at-related scope (Statement-F.Simple x) = normally-related _ _ (simple-related scope x)
 
-      opened_statement-related : (scope : Scope) (x : Statement) → R (s.opened n inner scope x) (s.opened (n + j) other scope x)
-      unfolding s.opened
+      opened_statement-related : (scope : Scope) (x : Statement) → R (s.run_statement n inner scope x) (s.run_statement (n + j) other scope x)
+      unfolding s.run_statement
       opened_statement-related scope x = statement_at-related scope (out-Statement x)
 
   -- a statement to a depth, and to the same or a greater one

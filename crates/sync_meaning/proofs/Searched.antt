@@ -13,7 +13,7 @@ use Rattle.std.proofs.lemmas.Cmp.{nat_list_cmp_total}
 use Rattle.std.proofs.lemmas.Map.Text.{is_eq-slice_cmp}
 use Rattle.sg_names.specs.ItemList.{rises}
 use Rattle.sync_meaning.specs.inner.Arguments.{AreSorted}
-use Rattle.sync_meaning.specs.Builtins.{is_in}
+use Rattle.sync_meaning.specs.Builtins.{is_one_of}
 
 first : (a b : Bool) → (a && b) ≡ true → a ≡ true
 first true b h = refl
@@ -52,16 +52,16 @@ or_true : (b : Bool) → (b || true) ≡ true
 or_true true = refl
 or_true false = refl
 
-in_here : {X : Type 0} (f : X → List ℕ) (xs : List X) (c : List ℕ) (i : ℕ) (d : X) → i < length xs → bytes_eq c (f (slice_index_or xs i d)) ≡ true → is_in (map f xs) c ≡ true
+in_here : {X : Type 0} (f : X → List ℕ) (xs : List X) (c : List ℕ) (i : ℕ) (d : X) → i < length xs → bytes_eq c (f (slice_index_or xs i d)) ≡ true → is_one_of (map f xs) c ≡ true
 in_here {X} f [] c i d within is = absurd (omega (arith, within))
-in_here {X} f (x ∷ xs) c zero d within is = ap (λ (b : Bool). b || is_in (map f xs) c) is
+in_here {X} f (x ∷ xs) c zero d within is = ap (λ (b : Bool). b || is_one_of (map f xs) c) is
 in_here {X} f (x ∷ xs) c (suc i) d within is = ap (λ (b : Bool). bytes_eq c (f x) || b) (in_here f xs c i d (omega (arith, within)) is) ∙ or_true (bytes_eq c (f x))
 
-in_none : {X : Type 0} (f : X → List ℕ) (xs : List X) (c : List ℕ) → ((k : ℕ) (d : X) → k < length xs → bytes_eq c (f (slice_index_or xs k d)) ≡ false) → is_in (map f xs) c ≡ false
+in_none : {X : Type 0} (f : X → List ℕ) (xs : List X) (c : List ℕ) → ((k : ℕ) (d : X) → k < length xs → bytes_eq c (f (slice_index_or xs k d)) ≡ false) → is_one_of (map f xs) c ≡ false
 in_none {X} f [] c not = refl
-in_none {X} f (x ∷ xs) c not = or_from (bytes_eq c (f x)) (is_in (map f xs) c) (not 0 x (omega arith)) (in_none f xs c (λ k d within. not (suc k) d (omega (arith, within))))
+in_none {X} f (x ∷ xs) c not = or_from (bytes_eq c (f x)) (is_one_of (map f xs) c) (not 0 x (omega arith)) (in_none f xs c (λ k d within. not (suc k) d (omega (arith, within))))
 
-pub found_by_halves : {X : Type 0} (f : X → List ℕ) (xs : List X) (c : List ℕ) (r : Result ℕ ℕ) → IsSearchInRange r (length xs) → IsBinarySearchResult (λ y. slice_cmp nat_cmp (f y) c) xs r → AreSorted (map f xs) → is_ok r ≡ is_in (map f xs) c
+pub found_by_halves : {X : Type 0} (f : X → List ℕ) (xs : List X) (c : List ℕ) (r : Result ℕ ℕ) → IsSearchInRange r (length xs) → IsBinarySearchResult (λ y. slice_cmp nat_cmp (f y) c) xs r → AreSorted (map f xs) → is_ok r ≡ is_one_of (map f xs) c
 found_by_halves {X} f [] c (Ok i) within found sorted = absurd (omega (arith, within))
 found_by_halves {X} f (x ∷ xs) c (Ok i) within found sorted = sym (in_here f (x ∷ xs) c i x within (named c _ Equal (found x)))
 found_by_halves {X} f xs c (Err i) within found sorted =

@@ -9,21 +9,21 @@ use Rattle.sync_values.specs.declared.fault.FaultKind.TheVariants.{Size}
 use Rattle.sync_values.specs.Found.{Found, fails}
 use Rattle.sync_values.specs.Values.{found_then}
 use Rattle.sync_meaning.specs.declared.effects.Effects.{Effects}
-use Rattle.sync_meaning.specs.Builtins.{is_in, effect_count, within, for_each}
+use Rattle.sync_meaning.specs.Builtins.{is_one_of, effect_count, within_limits, for_each}
 use Rattle.sync_meaning.specs.inner.Arguments.{AreSame}
 
 same_bytes : (x : List ℕ) → bytes_eq x x ≡ true
 same_bytes x = (bytes_decides x x).1 refl
 
 -- an item is one of its list
-pub first_in : (x : List ℕ) (xs : List (List ℕ)) → is_in (x ∷ xs) x ≡ true
-first_in x xs = ap (λ (b : Bool). b || is_in xs x) (same_bytes x)
+pub first_in : (x : List ℕ) (xs : List (List ℕ)) → is_one_of (x ∷ xs) x ≡ true
+first_in x xs = ap (λ (b : Bool). b || is_one_of xs x) (same_bytes x)
 
 or_true : (b : Bool) → (b || true) ≡ true
 or_true true = refl
 or_true false = refl
 
-pub more_in : (x y : List ℕ) (xs : List (List ℕ)) → is_in xs y ≡ true → is_in (x ∷ xs) y ≡ true
+pub more_in : (x y : List ℕ) (xs : List (List ℕ)) → is_one_of xs y ≡ true → is_one_of (x ∷ xs) y ≡ true
 more_in x y xs h = ap (λ (b : Bool). bytes_eq y x || b) h ∙ or_true (bytes_eq y x)
 
 -- what is done for each name, without the count
@@ -43,17 +43,17 @@ module _ (g : List ℕ → Effects → Effects) where
   past a moves (k ∷ ks) e = past a moves ks (g k e) ∙ ap (each g ks) (moves k e)
 
   module _ (put : IsPut g) where
-    absorbs_by : (b : Bool) (k l : List ℕ) (ks : List (List ℕ)) (e : Effects) → bytes_eq k l ≡ b → (b || is_in ks k) ≡ true
-        → (is_in ks k ≡ true → g k (each g ks (g l e)) ≡ each g ks (g l e)) → g k (each g ks (g l e)) ≡ each g ks (g l e)
+    absorbs_by : (b : Bool) (k l : List ℕ) (ks : List (List ℕ)) (e : Effects) → bytes_eq k l ≡ b → (b || is_one_of ks k) ≡ true
+        → (is_one_of ks k ≡ true → g k (each g ks (g l e)) ≡ each g ks (g l e)) → g k (each g ks (g l e)) ≡ each g ks (g l e)
     absorbs_by true k l ks e is h again =
         past (g k) (λ m d. put.commutes k m d) ks (g l e) ∙ ap (each g ks) (ap (λ m. g m (g l e)) ((bytes_decides k l).0 is) ∙ put.once l e)
     absorbs_by false k l ks e is h again = again h
 
-    absorbs : (k : List ℕ) (ks : List (List ℕ)) (e : Effects) → is_in ks k ≡ true → g k (each g ks e) ≡ each g ks e
+    absorbs : (k : List ℕ) (ks : List (List ℕ)) (e : Effects) → is_one_of ks k ≡ true → g k (each g ks e) ≡ each g ks e
     absorbs k [] e h = absurd (false≢true h)
     absorbs k (l ∷ ks) e h = absorbs_by (bytes_eq k l) k l ks e refl h (λ i. absorbs k ks (g l e) i)
 
-    included : (xs ys : List (List ℕ)) (e : Effects) → ((x : List ℕ) → is_in xs x ≡ true → is_in ys x ≡ true) → each g xs (each g ys e) ≡ each g ys e
+    included : (xs ys : List (List ℕ)) (e : Effects) → ((x : List ℕ) → is_one_of xs x ≡ true → is_one_of ys x ≡ true) → each g xs (each g ys e) ≡ each g ys e
     included [] ys e all = refl
     included (x ∷ xs) ys e all = ap (each g xs) (absorbs x ys e (all x (first_in x xs))) ∙ included xs ys e (λ y i. all y (more_in x y xs i))
 
@@ -67,28 +67,28 @@ module _ (g : List ℕ → Effects → Effects) where
     each_grows [] e = omega arith
     each_grows (k ∷ ks) e = omega (arith, put.grows k e, each_grows ks (g k e))
 
-    module _ (p : Place) (f : List ℕ → Effects → Found Effects) (is : (k : List ℕ) (e : Effects) → f k e ≡ within p (g k e)) where
+    module _ (p : Place) (f : List ℕ → Effects → Found Effects) (is : (k : List ℕ) (e : Effects) → f k e ≡ within_limits p (g k e)) where
       ends : (r : Found Effects) → found_then r (for_each f []) ≡ r
       ends (Ok e) = refl
       ends (Err e) = refl
 
-      many : (d e : Effects) → nat_lt 1000 (effect_count d) ≡ true → effect_count d ≤ effect_count e → fails Size p ≡ within p e
-      unfolding within
+      many : (d e : Effects) → nat_lt 1000 (effect_count d) ≡ true → effect_count d ≤ effect_count e → fails Size p ≡ within_limits p e
+      unfolding within_limits
       many d e above le = ap (λ c. cond c (fails Size p) (Ok e)) (sym (nat_above (effect_count d) (effect_count e) above le))
         where
           nat_above : (m n : ℕ) → nat_lt 1000 m ≡ true → m ≤ n → nat_lt 1000 n ≡ true
           nat_above m n a b = grind arith
 
-      then_by : (c : Bool) (l : List ℕ) (ls : List (List ℕ)) (d : Effects) → nat_lt 1000 (effect_count d) ≡ c → for_each f (l ∷ ls) d ≡ within p (each g (l ∷ ls) d)
-          → found_then (cond c (fails Size p) (Ok d)) (for_each f (l ∷ ls)) ≡ within p (each g (l ∷ ls) d)
+      then_by : (c : Bool) (l : List ℕ) (ls : List (List ℕ)) (d : Effects) → nat_lt 1000 (effect_count d) ≡ c → for_each f (l ∷ ls) d ≡ within_limits p (each g (l ∷ ls) d)
+          → found_then (cond c (fails Size p) (Ok d)) (for_each f (l ∷ ls)) ≡ within_limits p (each g (l ∷ ls) d)
       then_by true l ls d above h = many d (each g (l ∷ ls) d) above (each_grows (l ∷ ls) d)
       then_by false l ls d above h = h
 
-      within_by : (d : Effects) → within p d ≡ cond (nat_lt 1000 (effect_count d)) (fails Size p) (Ok d)
-      unfolding within
+      within_by : (d : Effects) → within_limits p d ≡ cond (nat_lt 1000 (effect_count d)) (fails Size p) (Ok d)
+      unfolding within_limits
       within_by d = refl
 
-      through : (k : List ℕ) (ks : List (List ℕ)) (e : Effects) → for_each f (k ∷ ks) e ≡ within p (each g (k ∷ ks) e)
+      through : (k : List ℕ) (ks : List (List ℕ)) (e : Effects) → for_each f (k ∷ ks) e ≡ within_limits p (each g (k ∷ ks) e)
       through k [] e = ends (f k e) ∙ is k e
       through k (l ∷ ls) e =
           ap (λ r. found_then r (for_each f (l ∷ ls))) (is k e ∙ within_by (g k e))
@@ -99,7 +99,7 @@ module _ (g : List ℕ → Effects → Effects) where
       for_each_same [] [] e same = refl
       for_each_same [] (y ∷ ys) e same = absurd (false≢true (same y ∙ first_in y ys))
       for_each_same (x ∷ xs) [] e same = absurd (false≢true (sym (same x) ∙ first_in x xs))
-      for_each_same (x ∷ xs) (y ∷ ys) e same = through x xs e ∙ ap (within p) (each_same (x ∷ xs) (y ∷ ys) e same) ∙ sym (through y ys e)
+      for_each_same (x ∷ xs) (y ∷ ys) e same = through x xs e ∙ ap (within_limits p) (each_same (x ∷ xs) (y ∷ ys) e same) ∙ sym (through y ys e)
 
 -- what is done for each item of a list, where for each of these it is the same
 module _ {X : Type 0} (is : X → Bool) (f h : X → Effects → Found Effects) (alike : (x : X) (e : Effects) → is x ≡ true → f x e ≡ h x e) where
@@ -138,7 +138,7 @@ module _ (g : List ℕ → List ℕ → Effects → Effects) (put : ArePut g) wh
     grows = λ t e. each_grows (g t) (inner t) cs e;
   }
 
-  module _ (p : Place) (f : List ℕ → List ℕ → Effects → Found Effects) (is : (t c : List ℕ) (e : Effects) → f t c e ≡ within p (g t c e)) where
+  module _ (p : Place) (f : List ℕ → List ℕ → Effects → Found Effects) (is : (t c : List ℕ) (e : Effects) → f t c e ≡ within_limits p (g t c e)) where
     nothing : (ts : List (List ℕ)) (e : Effects) → for_each (λ t. for_each (f t) []) ts e ≡ Ok e
     nothing [] e = refl
     nothing (t ∷ ts) e = nothing ts e

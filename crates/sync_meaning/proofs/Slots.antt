@@ -9,24 +9,24 @@ use Rattle.std.proofs.lemmas.Slice.Eq.{bytes_eq-Decides}
 use Rattle.sync_values.specs.declared.value.Value.{Value}
 use Rattle.sync_values.specs.declared.value.Value.TheVariants as v
 use Rattle.sync_meaning.specs.declared.variables.Variable.{Variable}
-use Rattle.sync_meaning.specs.Slots.{is_variable, place_of, held, is_written, each_once, replaced}
-use Rattle.sync_meaning.specs.Variables.{variable, value_in, written}
+use Rattle.sync_meaning.specs.Slots.{is_variable, slot_of, held, is_written, each_once, replaced}
+use Rattle.sync_meaning.specs.Variables.{variable, value_in, variables_with}
 
-pub value_held : (name : List ℕ) (number : ℕ) (xs : List Variable) → value_in name number xs ≡ held (slice_get xs (place_of name number xs))
+pub value_held : (name : List ℕ) (number : ℕ) (xs : List Variable) → value_in name number xs ≡ held (slice_get xs (slot_of name number xs))
 value_held name number [] = refl
 value_held name number (x ∷ xs) =
     elim (cases_Bool (is_variable name number x)) [ inl e ↦ rw e refl | inr e ↦ rw (e, add-one) (value_held name number xs) ]
 
-pub written_last : (name : List ℕ) (number : ℕ) (value : Value) (xs : List Variable) → length xs ≤ place_of name number xs
-    → written name number value xs ≡ xs ++ variable name number value ∷ []
+pub written_last : (name : List ℕ) (number : ℕ) (value : Value) (xs : List Variable) → length xs ≤ slot_of name number xs
+    → variables_with name number value xs ≡ xs ++ variable name number value ∷ []
 written_last name number value [] past = refl
 written_last name number value (x ∷ xs) past =
     elim (cases_Bool (is_variable name number x)) [
       | inl e ↦
-          let none : suc (length xs) ≤ 0 = subst (λ b. suc (length xs) ≤ (if b then 0 else place_of name number xs + 1)) e past in
+          let none : suc (length xs) ≤ 0 = subst (λ b. suc (length xs) ≤ (if b then 0 else slot_of name number xs + 1)) e past in
           absurd (omega (arith, none))
       | inr e ↦
-          let more : suc (length xs) ≤ place_of name number xs + 1 = subst (λ b. suc (length xs) ≤ (if b then 0 else place_of name number xs + 1)) e past in
+          let more : suc (length xs) ≤ slot_of name number xs + 1 = subst (λ b. suc (length xs) ≤ (if b then 0 else slot_of name number xs + 1)) e past in
           rw e (ap (λ l. x ∷ l) (written_last name number value xs (omega (arith, more))))
     ]
 
@@ -43,19 +43,19 @@ its_number name number x e = (Decides-eqb number x.number).0 (grind (arith, e))
 same_variable : (name : List ℕ) (number : ℕ) (value : Value) (x : Variable) → is_variable name number x ≡ true → variable name number value ≡ record x { value = value }
 same_variable name number value x e = λ i. record { name = its_name name number x e i; number = its_number name number x e i; value = value }
 
-written_at_place : (name : List ℕ) (number : ℕ) (value : Value) (xs : List Variable) → place_of name number xs < length xs
-    → written name number value xs ≡ replaced (place_of name number xs) value xs
+written_at_place : (name : List ℕ) (number : ℕ) (value : Value) (xs : List Variable) → slot_of name number xs < length xs
+    → variables_with name number value xs ≡ replaced (slot_of name number xs) value xs
 written_at_place name number value [] below = absurd (omega (arith, below))
 written_at_place name number value (x ∷ xs) below =
     elim (cases_Bool (is_variable name number x)) [
       | inl e ↦ rw e (ap (λ y. y ∷ xs) (same_variable name number value x e))
       | inr e ↦
-          let less : place_of name number xs + 1 < suc (length xs) = subst (λ b. (if b then 0 else place_of name number xs + 1) < suc (length xs)) e below in
+          let less : slot_of name number xs + 1 < suc (length xs) = subst (λ b. (if b then 0 else slot_of name number xs + 1) < suc (length xs)) e below in
           rw (e, add-one) (ap (λ l. x ∷ l) (written_at_place name number value xs (omega (arith, less))))
     ]
 
-pub written_there : (name : List ℕ) (number : ℕ) (value : Value) (xs : List Variable) (at : ℕ) → at ≡ place_of name number xs → at < length xs
-    → written name number value xs ≡ replaced at value xs
+pub written_there : (name : List ℕ) (number : ℕ) (value : Value) (xs : List Variable) (at : ℕ) → at ≡ slot_of name number xs → at < length xs
+    → variables_with name number value xs ≡ replaced at value xs
 written_there name number value xs at e below =
     written_at_place name number value xs (subst (λ k. k < length xs) e below) ∙ sym (ap (λ k. replaced k value xs) e)
 
@@ -82,7 +82,7 @@ written_at name number (y ∷ ys) (suc at) x e h =
 
 -- where each stands once, a variable that stands at a place stands at no place before it
 pub place_kept : (name : List ℕ) (number : ℕ) (xs : List Variable) (at : ℕ) (x : Variable) → IsTrue (each_once xs) → slice_get xs at ≡ Some x
-    → is_variable name number x ≡ true → at ≡ place_of name number xs
+    → is_variable name number x ≡ true → at ≡ slot_of name number xs
 place_kept name number [] at x once e h = absurd (grind (arith, e))
 place_kept name number (y ∷ ys) zero x once e h =
     let same : y ≡ x = grind (arith, e) in
@@ -100,7 +100,7 @@ place_kept name number (y ∷ ys) (suc at) x once e h =
 
 -- writing one variable writes no other
 others_written : (a name : List ℕ) (b number : ℕ) (value : Value) (xs : List Variable) → is_variable a b (variable name number value) ≡ false
-    → is_written a b (written name number value xs) ≡ is_written a b xs
+    → is_written a b (variables_with name number value xs) ≡ is_written a b xs
 others_written a name b number value [] other = rw other refl
 others_written a name b number value (x ∷ xs) other =
     elim (cases_Bool (is_variable name number x)) [
@@ -125,7 +125,7 @@ not_that name number value x other =
     ]
 
 pub once_written : (name : List ℕ) (number : ℕ) (value : Value) (xs : List Variable) → IsTrue (each_once xs)
-    → IsTrue (each_once (written name number value xs))
+    → IsTrue (each_once (variables_with name number value xs))
 once_written name number value [] once = refl
 once_written name number value (x ∷ xs) once =
     let parts : (is_written x.name x.number xs ≡ false) × IsTrue (each_once xs) = search (rules, once) in
@@ -134,6 +134,6 @@ once_written name number value (x ∷ xs) once =
           let none : is_written name number xs ≡ false = subst (λ n. is_written n number xs ≡ false) (sym (its_name name number x e)) (subst (λ k. is_written x.name k xs ≡ false) (sym (its_number name number x e)) parts.0) in
           rw (e, none) parts.1
       | inr e ↦
-          let none : is_written x.name x.number (written name number value xs) ≡ false = others_written x.name name x.number number value xs (not_that name number value x e) ∙ parts.0 in
+          let none : is_written x.name x.number (variables_with name number value xs) ≡ false = others_written x.name name x.number number value xs (not_that name number value x e) ∙ parts.0 in
           rw (e, none) (once_written name number value xs parts.1)
     ]

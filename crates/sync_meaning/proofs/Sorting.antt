@@ -14,7 +14,7 @@ use Rattle.std.proofs.lemmas.Cmp.{nat_list_cmp_total}
 use Rattle.std.proofs.lemmas.Map.Text.{is_eq-slice_cmp}
 use Rattle.sg_names.specs.ItemList.{rises}
 use Rattle.sync_meaning.specs.inner.Arguments.{AreSame, AreSorted}
-use Rattle.sync_meaning.specs.Builtins.{is_in}
+use Rattle.sync_meaning.specs.Builtins.{is_one_of}
 
 -- a name that ties is the same
 tied : (a b : List ℕ) → is_eq (slice_cmp nat_cmp a b) ≡ true → a ≡ b
@@ -47,7 +47,7 @@ dedup_named : {X : Type 0} (f : X → List ℕ) (xs : List X) → map f (dedup (
 dedup_named {X} f [] = refl
 dedup_named {X} f (x ∷ xs) = from_named f x xs
 
-in_from : (k : List ℕ) (xs : List (List ℕ)) (n : List ℕ) → is_in (dedup_from tie k xs) n ≡ (bytes_eq n k || is_in xs n)
+in_from : (k : List ℕ) (xs : List (List ℕ)) (n : List ℕ) → is_one_of (dedup_from tie k xs) n ≡ (bytes_eq n k || is_one_of xs n)
 in_from k [] n = refl
 in_from k (x ∷ xs) n = by (tie x k) refl (in_from k xs n) (in_from x xs n)
   where
@@ -55,12 +55,12 @@ in_from k (x ∷ xs) n = by (tie x k) refl (in_from k xs n) (in_from x xs n)
     twice true d = refl
     twice false d = refl
 
-    by : (b : Bool) → tie x k ≡ b → is_in (dedup_from tie k xs) n ≡ (bytes_eq n k || is_in xs n) → is_in (dedup_from tie x xs) n ≡ (bytes_eq n x || is_in xs n)
-        → is_in (cond b (dedup_from tie k xs) (k ∷ dedup_from tie x xs)) n ≡ (bytes_eq n k || (bytes_eq n x || is_in xs n))
-    by true is same next = same ∙ twice (bytes_eq n k) (is_in xs n) ∙ ap (λ (y : List ℕ). bytes_eq n k || (bytes_eq n y || is_in xs n)) (sym (tied x k is))
+    by : (b : Bool) → tie x k ≡ b → is_one_of (dedup_from tie k xs) n ≡ (bytes_eq n k || is_one_of xs n) → is_one_of (dedup_from tie x xs) n ≡ (bytes_eq n x || is_one_of xs n)
+        → is_one_of (cond b (dedup_from tie k xs) (k ∷ dedup_from tie x xs)) n ≡ (bytes_eq n k || (bytes_eq n x || is_one_of xs n))
+    by true is same next = same ∙ twice (bytes_eq n k) (is_one_of xs n) ∙ ap (λ (y : List ℕ). bytes_eq n k || (bytes_eq n y || is_one_of xs n)) (sym (tied x k is))
     by false is same next = ap (λ (b : Bool). bytes_eq n k || b) next
 
-in_dedup : (xs : List (List ℕ)) (n : List ℕ) → is_in (dedup tie xs) n ≡ is_in xs n
+in_dedup : (xs : List (List ℕ)) (n : List ℕ) → is_one_of (dedup tie xs) n ≡ is_one_of xs n
 in_dedup [] n = refl
 in_dedup (x ∷ xs) n = in_from x xs n
 
@@ -116,7 +116,7 @@ pub same_kept : {X : Type 0} (f : X → List ℕ) (xs ys zs : List X) → IsPerm
 same_kept f xs ys zs moved is = λ n.
     list_any-IsPermutation (bytes_eq n) (map f xs) (map f ys) (IsPermutation-map f xs ys moved)
     ∙ sym (in_dedup (map f ys) n)
-    ∙ sym (ap (λ (l : List (List ℕ)). is_in l n) (ap (map f) is ∙ dedup_named f ys))
+    ∙ sym (ap (λ (l : List (List ℕ)). is_one_of l n) (ap (map f) is ∙ dedup_named f ys))
 
 pub sorted_kept : {X : Type 0} (f : X → List ℕ) (ys zs : List X) → IsSortedBy (λ x y. is_lt (slice_cmp nat_cmp (f x) (f y))) ys → zs ≡ dedup (tie_by f) ys → AreSorted (map f zs)
 sorted_kept f ys zs sorted is = subst (λ (l : List (List ℕ)). AreSorted l) (sym (ap (map f) is ∙ dedup_named f ys)) (sorted_dedup (map f ys) (do_not_fall f ys sorted))

@@ -48,15 +48,15 @@ texts_from found [] = Some found
 texts_from found (x ∷ xs) = with_text (text_in x) (λ s. texts_from (found ++ s ∷ []) xs)
 
 -- the texts that items are, if all are texts
-abbrev pub texts_of : List Value → Option (List (List ℕ))
-texts_of xs = texts_from [] xs
+abbrev pub item_texts : List Value → Option (List (List ℕ))
+item_texts xs = texts_from [] xs
 
 -- the texts of an argument that is seen from outside
 abbrev pub argument_at : Layer → Option (List (List ℕ))
 argument_at Value-F.Undefined = Some []
 argument_at Value-F.Null = Some []
 argument_at (Value-F.Text s) = Some (s ∷ [])
-argument_at (Value-F.List xs) = texts_of xs
+argument_at (Value-F.List xs) = item_texts xs
 argument_at _ = None
 
 -- the texts, or where there are none an argument fault
@@ -96,12 +96,12 @@ stripped (b ∷ bs) [] = None
 stripped (b ∷ bs) (c ∷ cs) = if nat_eq b c then stripped bs cs else None
 
 -- what stands behind `role:`
-unfoldable pub role_in : List ℕ → Option (List ℕ)
-role_in t = stripped (codes "role:") t
+unfoldable pub role_behind : List ℕ → Option (List ℕ)
+role_behind t = stripped (codes "role:") t
 
 -- a role, which may be written with `role:` before it
 abbrev pub bare_role : List ℕ → List ℕ
-bare_role t = unwrap_or (role_in t) t
+bare_role t = unwrap_or (role_behind t) t
 
 -- a user, or where there is one this role
 abbrev pub grantee_by : List ℕ → Option (List ℕ) → Grantee
@@ -110,7 +110,7 @@ grantee_by t None = grantee.User t
 
 -- a user, or a role, which is written with `role:` before it
 abbrev pub grantee_of : List ℕ → Grantee
-grantee_of t = grantee_by t (role_in t)
+grantee_of t = grantee_by t (role_behind t)
 
 -- the users of an argument
 unfoldable pub users_in : Place → Value → Found (List (List ℕ))
@@ -140,20 +140,20 @@ abbrev pub effect_count : Effects → ℕ
 effect_count e = length e.channels + length e.grants + length e.roles
 
 -- there are at most 1,000
-unfoldable pub within : Place → Effects → Found Effects
-within p e = if nat_lt 1000 (effect_count e) then fails Size p else Ok e
+unfoldable pub within_limits : Place → Effects → Found Effects
+within_limits p e = if nat_lt 1000 (effect_count e) then fails Size p else Ok e
 
 -- one channel more
 unfoldable pub add_channel : Place → List ℕ → Effects → Found Effects
-add_channel p c e = within p (record e { channels = put (slice_cmp nat_cmp) c e.channels })
+add_channel p c e = within_limits p (record e { channels = put (slice_cmp nat_cmp) c e.channels })
 
 -- a channel for a user or role more
 unfoldable pub add_grant : Place → Grantee → List ℕ → Effects → Found Effects
-add_grant p to c e = within p (record e { grants = put grant_cmp (record { to = to; channel = c }) e.grants })
+add_grant p to c e = within_limits p (record e { grants = put grant_cmp (record { to = to; channel = c }) e.grants })
 
 -- a role for a user more
 unfoldable pub add_role : Place → List ℕ → List ℕ → Effects → Found Effects
-add_role p user role e = within p (record e { roles = put role_grant_cmp (record { user = user; role = role }) e.roles })
+add_role p user role e = within_limits p (record e { roles = put role_grant_cmp (record { user = user; role = role }) e.roles })
 
 -- one after the other
 abbrev pub for_each : {X : Type 0} → (X → Effects → Found Effects) → List X → Effects → Found Effects
@@ -183,17 +183,17 @@ add_roles p users roles e = for_each (add_roles_to p roles) users e
 -- ---- who passes
 
 -- whether a name is one of these
-abbrev pub is_in : List (List ℕ) → List ℕ → Bool
-is_in all name = list_any (bytes_eq name) all
+abbrev pub is_one_of : List (List ℕ) → List ℕ → Bool
+is_one_of all name = list_any (bytes_eq name) all
 
 -- whether one of these is one of those
 abbrev pub share_one : List (List ℕ) → List (List ℕ) → Bool
-share_one names all = list_any (is_in all) names
+share_one names all = list_any (is_one_of all) names
 
 -- whether the user is one of these; where there is none it is the administrator, who passes
 abbrev pub is_user : Option (List ℕ) → List (List ℕ) → Bool
 is_user None names = true
-is_user (Some user) names = is_in names user
+is_user (Some user) names = is_one_of names user
 
 -- the administrator passes, and a user where this is so
 abbrev pub or_administrator : Option (List ℕ) → Bool → Bool
@@ -210,7 +210,7 @@ passes_role c roles = or_administrator c.user (share_one roles c.roles)
 
 -- the user has one of these channels, or all by the channel `*`; the administrator passes
 unfoldable pub passes_access : Context → List (List ℕ) → Bool
-passes_access c channels = or_administrator c.user (is_in c.channels (codes "*") || share_one channels c.channels)
+passes_access c channels = or_administrator c.user (is_one_of c.channels (codes "*") || share_one channels c.channels)
 
 -- the administrator alone passes
 unfoldable pub passes_admin : Context → Bool

@@ -17,15 +17,15 @@ use Rattle.sync_values.specs.declared.callee.Target.TheVariants as t
 use Rattle.sync_values.specs.declared.value.Value.{Value}
 use Rattle.sync_values.specs.declared.value.Value.TheVariants as v
 use Rattle.sync_values.specs.Found.{Found, type_fault}
-use Rattle.sync_values.specs.Values.{bounded, same_truth, truth, combined, prefixed, member, indexed, listed, by_method}
+use Rattle.sync_values.specs.Values.{bounded, same_truth, truth, combined, prefixed, member, indexed, listed_values, by_method}
 use Rattle.sync_meaning.specs.declared.scope.Scope.{Scope}
 use Rattle.sync_meaning.specs.Acts.{Act, ◌>>=◌, ◌>>◌, pure, lift, visit, visits, out_of_visits}
 use Rattle.sync_meaning.specs.Variables.{number_of, value_in}
 use Rattle.sync_meaning.specs.Builtins.{built_in}
 
 -- an expression as it is seen from outside
-abbrev pub Layer : Type 0
-Layer = Expr-F Expr Suffix
+abbrev pub ExprLayer : Type 0
+ExprLayer = Expr-F Expr Suffix
 
 -- what follows an expression, seen from outside
 abbrev pub SuffixLayer : Type 0
@@ -34,23 +34,23 @@ SuffixLayer = Suffix-F Expr Suffix
 -- ---- places
 
 -- the place of an expression, by those of the expressions in it
-abbrev pub first_place : Expr-F Place (Unit {0}) → Place
-first_place (Expr-F.Undefined p) = p
-first_place (Expr-F.Null p) = p
-first_place (Expr-F.Bool p b) = p
-first_place (Expr-F.Integer p n) = p
-first_place (Expr-F.Text p s) = p
-first_place (Expr-F.Name p n) = p
-first_place (Expr-F.List p es) = p
-first_place (Expr-F.Object p ms) = p
-first_place (Expr-F.Prefix p o e) = p
-first_place (Expr-F.Postfix first ss) = first
-first_place (Expr-F.Chain first ts) = first
-first_place (Expr-F.Choice c x y) = c
+abbrev pub expr_place : Expr-F Place (Unit {0}) → Place
+expr_place (Expr-F.Undefined p) = p
+expr_place (Expr-F.Null p) = p
+expr_place (Expr-F.Bool p b) = p
+expr_place (Expr-F.Integer p n) = p
+expr_place (Expr-F.Text p s) = p
+expr_place (Expr-F.Name p n) = p
+expr_place (Expr-F.List p es) = p
+expr_place (Expr-F.Object p ms) = p
+expr_place (Expr-F.Prefix p o e) = p
+expr_place (Expr-F.Postfix first ss) = first
+expr_place (Expr-F.Chain first ts) = first
+expr_place (Expr-F.Choice c x y) = c
 
 -- the place of an expression, which is that of its first character
 abbrev pub place_of : Expr → Place
-place_of = fold-Expr Place (Unit {0}) first_place (λ _. tt)
+place_of = fold-Expr Place (Unit {0}) expr_place (λ _. tt)
 
 -- ---- what is called
 
@@ -102,7 +102,7 @@ is_called behind [] = behind
 is_called behind (s ∷ ss) = is_call s
 
 -- the name `Array`, seen from outside
-abbrev pub is_array_name_at : Layer → Bool
+abbrev pub is_array_name_at : ExprLayer → Bool
 is_array_name_at (Expr-F.Name p n) = bytes_eq n (codes "Array")
 is_array_name_at _ = false
 
@@ -183,15 +183,15 @@ member_or_method called p x name = do
 -- The first argument evaluates an expression inside: where it is given true, as what a call calls.
 module _ (inner : Bool → Scope → Expr → Act Target) where
   -- the value of an expression inside
-  unfoldable pub value : Scope → Expr → Act Value
-  value scope e = do
+  unfoldable pub inner_value : Scope → Expr → Act Value
+  inner_value scope e = do
     x ← inner false scope e
     lift (as_value (place_of e) x)
 
   -- the values of expressions from left to right, behind those found
   abbrev pub values_from : Scope → List Value → List Expr → Act (List Value)
   values_from scope found [] = pure found
-  values_from scope found (e ∷ es) = value scope e >>= (λ x. values_from scope (found ++ x ∷ []) es)
+  values_from scope found (e ∷ es) = inner_value scope e >>= (λ x. values_from scope (found ++ x ∷ []) es)
 
   -- the values of expressions from left to right
   unfoldable pub values : Scope → List Expr → Act (List Value)
@@ -200,7 +200,7 @@ module _ (inner : Bool → Scope → Expr → Act Target) where
   -- the members of an object from left to right, behind those found
   abbrev pub members_from : Scope → List (List ℕ × Value) → List (List ℕ × Expr) → Act (List (List ℕ × Value))
   members_from scope found [] = pure found
-  members_from scope found (e ∷ es) = value scope e.1 >>= (λ x. members_from scope (found ++ (e.0, x) ∷ []) es)
+  members_from scope found (e ∷ es) = inner_value scope e.1 >>= (λ x. members_from scope (found ++ (e.0, x) ∷ []) es)
 
   -- the members of an object from left to right
   unfoldable pub members : Scope → List (List ℕ × Expr) → Act (List (List ℕ × Value))
@@ -211,7 +211,7 @@ module _ (inner : Bool → Scope → Expr → Act Target) where
   list scope p es = do
     visit p
     xs ← values scope es
-    lift (listed p xs)
+    lift (listed_values p xs)
 
   -- an object of expressions
   unfoldable pub object : Scope → Place → List (List ℕ × Expr) → Act Value
@@ -224,19 +224,19 @@ module _ (inner : Bool → Scope → Expr → Act Target) where
   unfoldable pub prefix : Scope → Place → Prefix → Expr → Act Value
   prefix scope p o e = do
     visit p
-    x ← value scope e
+    x ← inner_value scope e
     lift (prefixed p o x)
 
   -- `&&` and `||` give the first operand, or where it doesn't decide the second
   unfoldable pub decided : Scope → Place → Bool → Value → Expr → Act Value
   decided scope p deciding x e = do
     is_true ← lift (truth p x)
-    if same_truth is_true deciding then pure x else value scope e
+    if same_truth is_true deciding then pure x else inner_value scope e
 
   -- an operator that takes both operands
   unfoldable pub operated : Scope → Place → Operator → Value → Expr → Act Value
   operated scope p o x e = do
-    y ← value scope e
+    y ← inner_value scope e
     lift (combined p o x y)
 
   -- an operator behind its first operand
@@ -254,16 +254,16 @@ module _ (inner : Bool → Scope → Expr → Act Target) where
   unfoldable pub chain : Scope → Expr → List (Operator × Expr) → Act Value
   chain scope first os = do
     visits (length os) (place_of first)
-    x ← value scope first
+    x ← inner_value scope first
     operations scope (place_of first) x os
 
   -- `?:` gives the one operand or the other
   unfoldable pub choice : Scope → Expr → Expr → Expr → Act Value
   choice scope c first other = do
     visit (place_of c)
-    x ← value scope c
+    x ← inner_value scope c
     is_true ← lift (truth (place_of c) x)
-    if is_true then value scope first else value scope other
+    if is_true then inner_value scope first else inner_value scope other
 
   -- ---- what stands behind an expression
 
@@ -277,7 +277,7 @@ module _ (inner : Bool → Scope → Expr → Act Target) where
   unfoldable pub index : Scope → Place → Target → Expr → Act Target
   index scope p x e = do
     y ← lift (as_value p x)
-    i ← value scope e
+    i ← inner_value scope e
     z ← lift (indexed p y i)
     pure (t.Value z)
 
@@ -316,7 +316,7 @@ module _ (inner : Bool → Scope → Expr → Act Target) where
     lift (as_value (place_of first) x)
 
   -- the value of an expression that is seen from outside
-  abbrev pub node_at : Scope → Layer → Act Value
+  abbrev pub node_at : Scope → ExprLayer → Act Value
   node_at scope (Expr-F.Undefined p) = literal p (Ok v.Undefined)
   node_at scope (Expr-F.Null p) = literal p (Ok v.Null)
   node_at scope (Expr-F.Bool p b) = literal p (Ok (v.Bool b))
@@ -335,7 +335,7 @@ module _ (inner : Bool → Scope → Expr → Act Target) where
   node scope e = node_at scope (out-Expr e)
 
   -- what a call calls, seen from outside
-  abbrev pub callee_at : Scope → Layer → Act Target
+  abbrev pub callee_at : Scope → ExprLayer → Act Target
   callee_at scope (Expr-F.Name p n) = pure (called_by n)
   callee_at scope (Expr-F.Postfix first ss) = postfix true scope first ss
   callee_at scope _ = pure t.Nothing
@@ -345,15 +345,15 @@ module _ (inner : Bool → Scope → Expr → Act Target) where
   callee scope e = callee_at scope (out-Expr e)
 
   -- an expression, or where it is called what the call calls
-  unfoldable pub opened : Bool → Scope → Expr → Act Target
-  opened called scope e = if called then callee scope e else (do x ← node scope e; pure (t.Value x))
+  unfoldable pub node_or_callee : Bool → Scope → Expr → Act Target
+  node_or_callee called scope e = if called then callee scope e else (do x ← node scope e; pure (t.Value x))
 
 -- To a depth that nothing reaches which has visits left: of two expressions that are open, one directly in the other,
 -- at least one takes a visit.
 unfoldable pub evaluated : ℕ → Bool → Scope → Expr → Act Target
 evaluated zero called scope e = out_of_visits (place_of e)
-evaluated (suc depth) called scope e = opened (evaluated depth) called scope e
+evaluated (suc depth) called scope e = node_or_callee (evaluated depth) called scope e
 
 -- the value of an expression, to this depth
 abbrev pub value_to : ℕ → Scope → Expr → Act Value
-value_to depth scope e = value (evaluated depth) scope e
+value_to depth scope e = inner_value (evaluated depth) scope e

@@ -4,7 +4,7 @@ use Rattle.json_doc.specs.Tree.{Tree}
 use Rattle.sg_names.specs.Channels.{is_channels}
 use Rattle.sg_names.specs.Grants.{is_grants}
 use Rattle.sg_names.specs.RoleGrants.{is_role_grants}
-use Rattle.sync_tokens.specs.Places.{start}
+use Rattle.sync_tokens.specs.Places.{first_place}
 use Rattle.sync_tokens.specs.declared.place.Place.{Place}
 use Rattle.sync_syntax.specs.declared.tree.Program.{Program}
 use Rattle.sync_values.specs.declared.fault.RuleKind.TheVariants.{Fuel}
@@ -42,7 +42,7 @@ EffectsAreLawful = (visits : ℕ) (p : Program) (doc : Tree) (old : Option Tree)
 
 -- what stops a run, without its place
 abbrev pub placeless_stop : Stop → Stop
-placeless_stop (Deny r) = denial r.kind start
+placeless_stop (Deny r) = denial r.kind first_place
 placeless_stop Memory = Memory
 
 -- a verdict without its place

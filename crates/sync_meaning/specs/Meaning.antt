@@ -13,7 +13,7 @@ use Rattle.sync_meaning.specs.declared.effects.Effects.{Effects}
 use Rattle.sync_meaning.specs.declared.state.State.{State}
 use Rattle.sync_meaning.specs.declared.variables.Variable.{Variable}
 use Rattle.sync_meaning.specs.Acts.{Act}
-use Rattle.sync_meaning.specs.Variables.{top, written}
+use Rattle.sync_meaning.specs.Variables.{top, variables_with}
 use Rattle.sync_meaning.specs.Statements.{run, block}
 
 -- a new document has null before it
@@ -24,11 +24,11 @@ value_before (Some t) = value_of t
 -- the second parameter, where there is one; of two of one name the second counts
 abbrev pub with_second : Option Named → Value → List Variable → List Variable
 with_second None x xs = xs
-with_second (Some n) x xs = written n.name 0 x xs
+with_second (Some n) x xs = variables_with n.name 0 x xs
 
 -- the parameters
 unfoldable pub parameters : Program → Tree → Option Tree → List Variable
-parameters p doc old = with_second p.second (value_before old) (written p.first.name 0 (value_of doc) [])
+parameters p doc old = with_second p.second (value_before old) (variables_with p.first.name 0 (value_of doc) [])
 
 -- nothing was done yet
 abbrev pub no_effects : Effects

@@ -10,9 +10,9 @@ abbrev pub is_variable : List ℕ → ℕ → Variable → Bool
 is_variable name number x = bytes_eq name x.name && number == x.number
 
 -- the first place of a variable, or the count of all where it isn't there
-abbrev pub place_of : List ℕ → ℕ → List Variable → ℕ
-place_of name number [] = 0
-place_of name number (x ∷ xs) = if is_variable name number x then 0 else place_of name number xs + 1
+abbrev pub slot_of : List ℕ → ℕ → List Variable → ℕ
+slot_of name number [] = 0
+slot_of name number (x ∷ xs) = if is_variable name number x then 0 else slot_of name number xs + 1
 
 -- whether a variable was written
 abbrev pub is_written : List ℕ → ℕ → List Variable → Bool

@@ -20,12 +20,12 @@ use Rattle.sync_values.specs.declared.value.Value.{Value, out-Value}
 use Rattle.sync_values.specs.declared.value.Value.TheOpen.{Value-F}
 use Rattle.sync_values.specs.declared.value.Value.TheVariants as v
 use Rattle.sync_values.specs.Found.{Found, denial, fault, type_fault}
-use Rattle.sync_values.specs.Values.{Layer, found_then, last_named, truth, added, integer_in, bounded, calculated}
+use Rattle.sync_values.specs.Values.{Layer, found_then, last_named, truth, added_values, integer_in, bounded, calculated}
 use Rattle.sync_meaning.specs.declared.completion.Completion.{Completion}
 use Rattle.sync_meaning.specs.declared.completion.Completion.TheVariants.{Normal, Break, Continue, Return}
 use Rattle.sync_meaning.specs.declared.scope.Scope.{Scope}
 use Rattle.sync_meaning.specs.Acts.{Act, ◌>>=◌, ◌>>◌, pure, lift, visit, out_of_visits}
-use Rattle.sync_meaning.specs.Variables.{number_of, new_number, declared, started, behind, written}
+use Rattle.sync_meaning.specs.Variables.{number_of, new_number, declared, started, behind, variables_with}
 use Rattle.sync_meaning.specs.Builtins.{text_in}
 use Rattle.sync_meaning.specs.Expressions.{value_to, read}
 
@@ -64,7 +64,7 @@ statement_place s = place_at (out-Statement s)
 
 -- the variable of this name and number takes a value
 unfoldable pub store : List ℕ → ℕ → Value → Act (Unit {0})
-store name number x = λ s. Ok (tt, record s { variables = written name number x s.variables })
+store name number x = λ s. Ok (tt, record s { variables = variables_with name number x s.variables })
 
 -- the variable that a name stands for takes a value
 abbrev pub assign : Scope → List ℕ → Value → Act (Unit {0})
@@ -137,13 +137,13 @@ jump p how = do
 -- The first argument is the depth of the expressions inside.
 module _ (depth : ℕ) where
   -- the value of an expression
-  abbrev pub value : Scope → Expr → Act Value
-  value scope e = value_to depth scope e
+  abbrev pub expression_value : Scope → Expr → Act Value
+  expression_value scope e = value_to depth scope e
 
   -- undefined where there is none
   abbrev pub value_or_undefined : Scope → Option Expr → Act Value
   value_or_undefined scope None = pure v.Undefined
-  value_or_undefined scope (Some e) = value scope e
+  value_or_undefined scope (Some e) = expression_value scope e
 
   -- One declaration. A `var` without a value leaves its variable as it is.
   abbrev pub declare_one : Declares → Scope → List ℕ → Option Expr → Act (Unit {0})
@@ -165,28 +165,28 @@ module _ (depth : ℕ) where
   unfoldable pub add_to : Scope → Named → Expr → Act (Unit {0})
   add_to scope n e = do
     x ← read scope n.name
-    y ← value scope e
-    z ← lift (added n.place x y)
+    y ← expression_value scope e
+    z ← lift (added_values n.place x y)
     assign scope n.name z
 
   -- `-=`
   unfoldable pub subtract_from : Scope → Named → Expr → Act (Unit {0})
   subtract_from scope n e = do
     x ← read scope n.name
-    y ← value scope e
+    y ← expression_value scope e
     z ← lift (calculated n.place (λ a b. a -ℤ b) x y)
     assign scope n.name z
 
   -- `=`
   unfoldable pub set : Scope → Named → Expr → Act (Unit {0})
   set scope n e = do
-    x ← value scope e
+    x ← expression_value scope e
     assign scope n.name x
 
   -- an expression whose value is passed over
   unfoldable pub expression : Scope → Expr → Act (Unit {0})
   expression scope e = do
-    x ← value scope e
+    x ← expression_value scope e
     pure tt
 
   -- a simple statement, by its form
@@ -207,7 +207,7 @@ module _ (depth : ℕ) where
   -- whether a condition is true, by the statement at this place
   unfoldable pub is_true : Scope → Place → Expr → Act Bool
   is_true scope p c = do
-    x ← value scope c
+    x ← expression_value scope c
     lift (truth p x)
 
   -- the same; a condition that is absent is
@@ -216,15 +216,15 @@ module _ (depth : ℕ) where
   holds scope p (Some c) = is_true scope p c
 
   -- the beginning of a `for`, which may be absent
-  abbrev pub start : Scope → Option Start → Act (Unit {0})
-  start scope None = pure tt
-  start scope (Some (starts.Declare d)) = declare scope d
-  start scope (Some (starts.Simple s)) = simple scope s
+  abbrev pub run_start : Scope → Option Start → Act (Unit {0})
+  run_start scope None = pure tt
+  run_start scope (Some (starts.Declare d)) = declare scope d
+  run_start scope (Some (starts.Simple s)) = simple scope s
 
   -- what a `for` does behind each round, which may be absent
-  abbrev pub step : Scope → Option Simple → Act (Unit {0})
-  step scope None = pure tt
-  step scope (Some s) = simple scope s
+  abbrev pub run_step : Scope → Option Simple → Act (Unit {0})
+  run_step scope None = pure tt
+  run_step scope (Some s) = simple scope s
 
   -- `return`; its value is passed over
   unfoldable pub returned : Scope → Place → Option Expr → Act Completion
@@ -237,7 +237,7 @@ module _ (depth : ℕ) where
   unfoldable pub throw : Scope → Place → Expr → Act Completion
   throw scope p e = do
     visit p
-    x ← value scope e
+    x ← expression_value scope e
     (λ s. Err (thrown p x))
 
   -- The second argument runs a statement inside.
@@ -274,7 +274,7 @@ module _ (depth : ℕ) where
       goes ← holds scope p c
       if goes then (do
         how ← inner scope body
-        after_round (step scope last >> rounds n scope p c last body) how) else pure Normal
+        after_round (run_step scope last >> rounds n scope p c last body) how) else pure Normal
 
     -- Each round takes a visit at least, so that the visits that are left bound the rounds.
     unfoldable pub all_rounds : Scope → Place → Option Expr → Option Simple → Statement → Act Completion
@@ -284,7 +284,7 @@ module _ (depth : ℕ) where
     unfoldable pub loop_while : Scope → Place → Option Start → Option Expr → Option Simple → Statement → Act Completion
     loop_while scope p begin c last body = do
       visit p
-      start scope begin
+      run_start scope begin
       all_rounds (started begin scope) p c last body
 
     -- a round for each item, which the variable of this name and number takes
@@ -298,7 +298,7 @@ module _ (depth : ℕ) where
     unfoldable pub loop_of : Scope → Place → Declares → Named → Expr → Statement → Act Completion
     loop_of scope p how n e body = do
       visit p
-      x ← value scope e
+      x ← expression_value scope e
       xs ← lift (items_in p x)
       each (declared how n.name scope) n.name (new_number how scope) body xs
 
@@ -323,10 +323,10 @@ module _ (depth : ℕ) where
     statement_at scope (Statement-F.Simple s) = normally (simple scope s)
 
     -- a statement, one level down
-    unfoldable pub opened : Scope → Statement → Act Completion
-    opened scope s = statement_at scope (out-Statement s)
+    unfoldable pub run_statement : Scope → Statement → Act Completion
+    run_statement scope s = statement_at scope (out-Statement s)
 
 -- To a depth that nothing reaches which has visits left, since each statement takes one.
 unfoldable pub run : ℕ → Scope → Statement → Act Completion
 run zero scope s = out_of_visits (statement_place s)
-run (suc depth) scope s = opened depth (run depth) scope s
+run (suc depth) scope s = run_statement depth (run depth) scope s

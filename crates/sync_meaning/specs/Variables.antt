@@ -92,6 +92,6 @@ abbrev pub variable : List ℕ → ℕ → Value → Variable
 variable name number x = record { name = name; number = number; value = x }
 
 -- the variables where this one holds a value
-abbrev pub written : List ℕ → ℕ → Value → List Variable → List Variable
-written name number x [] = variable name number x ∷ []
-written name number x (y ∷ ys) = if is_variable name number y then variable name number x ∷ ys else y ∷ written name number x ys
+abbrev pub variables_with : List ℕ → ℕ → Value → List Variable → List Variable
+variables_with name number x [] = variable name number x ∷ []
+variables_with name number x (y ∷ ys) = if is_variable name number y then variable name number x ∷ ys else y ∷ variables_with name number x ys

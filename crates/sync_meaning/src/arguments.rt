@@ -48,7 +48,7 @@ fn push_text<'a>(found: &mut Vec<&'a str>, text: &'a str) -> Result<(), Memory>
 /// The texts that values are, where they stand; none where one is no text.
 fn texts_of(alloc: Global, values: &[Value]) -> Result<Option<Vec<&str>>, Memory>
     ensures { IfOk result (λ found. option_map (λ v. texts v.items) found
-        ≡ spec.texts_of values.now) }
+        ≡ spec.item_texts values.now) }
 {
     let mut found = Vec::new(alloc);
     let mut left = values;
@@ -89,9 +89,9 @@ fn texts_in(alloc: Global, place: Place, value: &Value) -> Result<Vec<&str>, Sto
 }
 
 /// What stands behind `role:`, where a text begins so.
-#[tactic(auto, unfolding(crate::specs::Builtins::role_in))]
+#[tactic(auto, unfolding(crate::specs::Builtins::role_behind))]
 fn role_in(text: &str) -> Option<&str>
-    ensures { option_map (λ role. role.now) result ≡ spec.role_in text.now }
+    ensures { option_map (λ role. role.now) result ≡ spec.role_behind text.now }
 {
     text.strip_prefix("role:")
 }
@@ -279,7 +279,7 @@ fn order_to(one: &str, name: &[u8]) -> Ordering
 /// Whether a name is one of these, which is found by halves. Allocates nothing.
 pub(crate) fn has_name(names: &[&str], name: &[u8]) -> bool
     requires { AreSorted (texts names.now) }
-    ensures { result ≡ spec.is_in (texts names.now) name.now }
+    ensures { result ≡ spec.is_one_of (texts names.now) name.now }
 {
     names.binary_search_by(|n| order_to(n, name)).is_ok()
 }

@@ -25,7 +25,7 @@ fn shares_name(all: &[Name], names: &[&str]) -> bool
 
 /// Whether one of these channels is `*`. Allocates nothing.
 fn has_every(all: &[ChannelName]) -> bool
-    ensures { result ≡ spec.is_in all.now (codes "*") }
+    ensures { result ≡ spec.is_one_of all.now (codes "*") }
 {
     all.iter()
         .any(|channel| b"*".as_slice() == channel.as_bytes())

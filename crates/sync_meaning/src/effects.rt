@@ -159,9 +159,9 @@ impl Effects {
     }
 
     /// That there are not too many.
-    #[tactic(auto, unfolding(crate::specs::Builtins::within))]
+    #[tactic(auto, unfolding(crate::specs::Builtins::within_limits))]
     fn within(&self, place: Place) -> Result<(), Stop>
-        ensures { Leaves (spec.within place self.now) result self.now }
+        ensures { Leaves (spec.within_limits place self.now) result self.now }
     {
         let channels = self.channels.as_slice().len();
         let grants = self.grants.as_slice().len();

@@ -2,7 +2,7 @@
 
 ghost use Rattle.std.specs.Prelude.{◌≡◌, ◌<◌, ◌≤◌, [], ◌∷◌, ◌++◌, length, slice_get, IsTrue, IfOk, IfSome, OnErr, OnOk};
 ghost use Rattle.sync_values.specs.declared.value.Value.{Value};
-ghost use Rattle.sync_meaning.specs.Slots.{each_once, held, is_variable, place_of, replaced};
+ghost use Rattle.sync_meaning.specs.Slots.{each_once, held, is_variable, slot_of, replaced};
 ghost use Rattle.sync_meaning.specs.Variables as spec;
 
 use crate::Memory;
@@ -81,7 +81,7 @@ impl Model for Variables {
 
 /// The place of a variable, or the count of all where it isn't there.
 fn place_among(slot: &Slot, variables: &[Variable]) -> usize
-    ensures { result ≡ place_of slot.now.name slot.now.number variables.now }
+    ensures { result ≡ slot_of slot.now.name slot.now.number variables.now }
 {
     let mut at = 0;
     let mut left = variables;
@@ -99,7 +99,7 @@ fn place_among(slot: &Slot, variables: &[Variable]) -> usize
 #[tactic(auto, using(crate::proofs::Slots::place_kept))]
 fn kept_place(places: &[usize], variables: &[Variable], slot: &Slot) -> Option<usize>
     requires { IsTrue (each_once variables.now) }
-    ensures { IfSome result (λ at. at ≡ place_of slot.now.name slot.now.number variables.now) }
+    ensures { IfSome result (λ at. at ≡ slot_of slot.now.name slot.now.number variables.now) }
 {
     let Some(place) = places.get(slot.at) else {
         return None;
@@ -199,9 +199,9 @@ fn put(
     slot: &Slot,
     value: Value,
 ) -> Result<(), Memory>
-    requires { at ≡ place_of slot.now.name slot.now.number items.old.items }
+    requires { at ≡ slot_of slot.now.name slot.now.number items.old.items }
     ensures ok { OnOk result (items.new.items
-        ≡ spec.written slot.now.name slot.now.number value items.old.items) }
+        ≡ spec.variables_with slot.now.name slot.now.number value items.old.items) }
     ensures err { OnErr result (items.new.items ≡ items.old.items) }
 {
     if at < items.len() {
@@ -267,7 +267,7 @@ impl Variables {
 
     /// The place of a variable, or the count of all where it isn't there.
     fn place_of(&self, slot: &Slot) -> usize
-        ensures { result ≡ place_of slot.now.name slot.now.number self.now }
+        ensures { result ≡ slot_of slot.now.name slot.now.number self.now }
     {
         match kept_place(self.places.as_slice(), self.items.as_slice(), slot) {
             Some(at) => at,
@@ -310,7 +310,7 @@ impl Variables {
     #[tactic(auto, using(crate::proofs::Slots::once_written))]
     fn take(&mut self, alloc: Global, slot: &Slot, value: Value) -> Result<(), Memory>
         ensures { OnOk result (self.new
-            ≡ spec.written slot.now.name slot.now.number value self.old) }
+            ≡ spec.variables_with slot.now.name slot.now.number value self.old) }
     {
         let at = self.place_of(slot);
         put(alloc, &mut self.items, at, slot, value)?;
@@ -321,7 +321,7 @@ impl Variables {
     /// A variable takes a value.
     pub fn write(&mut self, alloc: Global, slot: &Slot, value: Value) -> Result<(), Memory>
         ensures { OnOk result (self.new
-            ≡ spec.written slot.now.name slot.now.number value self.old) }
+            ≡ spec.variables_with slot.now.name slot.now.number value self.old) }
     {
         match self.keep(&value) {
             Ok(()) => self.take(alloc, slot, value),

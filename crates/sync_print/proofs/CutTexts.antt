@@ -5,8 +5,8 @@ use Rattle.std.specs.Prelude.{codes, decimal, encode_utf8, flat_map, IsUtf8, ◌
 use Rattle.std.proofs.lemmas.Str.{chars-nil, chars-append, chars-encodes, scalars-chars, encodes-chars, length-encode, len_utf8_bounds}
 use lib.Utf8.{scalars}
 use Rattle.sync_tokens.specs.declared.place.Place.{Place}
-use Rattle.sync_tokens.specs.Literals.{max_integer, plain_step, text_step, text_from, text_at}
-use Rattle.sync_tokens.specs.Places.{start, step}
+use Rattle.sync_tokens.specs.Literals.{max_integer, plain_step, text_step, text_from, literal_at}
+use Rattle.sync_tokens.specs.Places.{first_place, step}
 use Rattle.sync_tokens.specs.Scan.{piece_at, integer_by, plus, tokens_of}
 use Rattle.sync_tokens.specs.Words.{is_letter, utf8, reserved}
 use Rattle.sync_tokens.specs.declared.token.Kind.{Kind}
@@ -151,7 +151,7 @@ text_piece : (cs rest : List ℕ) → length (flat_map in_quotes cs) + 2 ≤ 184
     → piece_at (34 ∷ (flat_map in_quotes cs ++ 34 ∷ rest)) ≡ integer_by (kinds.Text (utf8 cs)) (length (flat_map in_quotes cs) + 2)
 unfolding piece_at text_step
 text_piece cs rest short =
-    let f : text_at 34 (flat_map in_quotes cs ++ 34 ∷ rest) ≡ Some (utf8 cs, 0 + length (flat_map in_quotes cs) + 1) = text_loop _ (λ d. refl) cs rest [] 0 in
+    let f : literal_at 34 (flat_map in_quotes cs ++ 34 ∷ rest) ≡ Some (utf8 cs, 0 + length (flat_map in_quotes cs) + 1) = text_loop _ (λ d. refl) cs rest [] 0 in
     let n : plus (0 + length (flat_map in_quotes cs) + 1) 1 ≡ length (flat_map in_quotes cs) + 2 = omega (arith, short) in
     rw (f, n) refl
 
@@ -285,4 +285,4 @@ unfolding tokens_of
 printed_tokens p a short =
     let small : length (printed p) + 2 ≤ 18446744073709551615 = omega (arith, short) in
     let fits : length (x.text_from Opening (program p)) + 2 ≤ 18446744073709551615 = subst (λ z. length z + 2 ≤ 18446744073709551615) (printed_text p) small in
-    ap (λ z. kinds_at 0 start (chars z)) (printed_text p) ∙ all_tokens (program p) a Opening start fits
+    ap (λ z. kinds_at 0 first_place (chars z)) (printed_text p) ∙ all_tokens (program p) a Opening first_place fits

@@ -1,6 +1,6 @@
 -- What is printed of each node is read as it, where that of its parts is.
 use Rattle.std.proofs.Common.{◌≡◌, ℕ, suc, ◌+◌, ◌≤◌, Bool, true, false, List, [], ◌∷◌, ◌++◌, map, Some, refl, sym, subst, ap, ◌∙◌, arith}
-use Rattle.sync_tokens.specs.Places.{start}
+use Rattle.sync_tokens.specs.Places.{first_place}
 use Rattle.sync_tokens.specs.declared.place.Place.{Place}
 use Rattle.sync_tokens.specs.declared.token.Kind.{Kind}
 use Rattle.sync_tokens.specs.declared.token.Kind.TheVariants as kinds
@@ -103,7 +103,7 @@ pub list_prints : (p : Place) (xs : List Expr) → AllPrint xs → Prints (e.Lis
 unfolding same_sign
 list_prints p xs ps = layered (e.List p xs) (spell (Expr-F.List p (map spelled xs))) (spelled_list p xs) (from_primary (e.List p xs) (spell (Expr-F.List p (map spelled xs)))
     (λ ts us h. (let r : PrintedList (AreListed signs.BracketClose) (next ts) xs us = listed_print signs.BracketClose xs ps (next ts) us h.1 in
-    record { tree = e.List (place ts) r.trees; is = g.list (taken (kinds.Sign signs.BracketOpen) ts h.0) r.are; same = bare_list (place ts) r.trees ∙ ap (e.List start) r.same ∙ sym (bare_list p xs) }))
+    record { tree = e.List (place ts) r.trees; is = g.list (taken (kinds.Sign signs.BracketOpen) ts h.0) r.are; same = bare_list (place ts) r.trees ∙ ap (e.List first_place) r.same ∙ sym (bare_list p xs) }))
     (λ _ ts us h. unseen_sign signs.BracketOpen ts h.0 refl))
 
 -- ---- members
@@ -139,13 +139,13 @@ fields_print (m ∷ ms) ps ts us h =
 pub object_prints : (p : Place) (ms : List (List ℕ × Expr)) → AllMembersPrint ms → Prints (e.Object p ms)
 object_prints p ms ps = layered (e.Object p ms) (spell (Expr-F.Object p (map spelled_member ms))) (spelled_object p ms) (from_primary (e.Object p ms) (spell (Expr-F.Object p (map spelled_member ms)))
     (λ ts us h. (let r : ((ns : List (List ℕ × Expr)) × AreFields (next ts) ns us × (map bare_member ns ≡ map bare_member ms)) = fields_print ms ps (next ts) us h.1 in
-    record { tree = e.Object (place ts) r.0; is = g.object (taken (kinds.Sign signs.BraceOpen) ts h.0) r.1; same = bare_object (place ts) r.0 ∙ ap (e.Object start) r.2 ∙ sym (bare_object p ms) }))
+    record { tree = e.Object (place ts) r.0; is = g.object (taken (kinds.Sign signs.BraceOpen) ts h.0) r.1; same = bare_object (place ts) r.0 ∙ ap (e.Object first_place) r.2 ∙ sym (bare_object p ms) }))
     (λ not_so ts us h. absurd cc))
 
 -- ---- operators before their operand
 
-prefix_is : (o : Prefix) → ops.prefix (prefix_kind o) ≡ Some o
-unfolding ops.prefix
+prefix_is : (o : Prefix) → ops.prefix_by (prefix_kind o) ≡ Some o
+unfolding ops.prefix_by
 prefix_is prefixes.Not = refl
 prefix_is prefixes.Negate = refl
 prefix_is prefixes.Typeof = refl
@@ -163,7 +163,7 @@ operand_of (g.operand u) = u
 pub prefix_prints : (p : Place) (o : Prefix) (x : Expr) → Prints x → Prints (e.Prefix p o x)
 prefix_prints p o x px = layered (e.Prefix p o x) (spell (Expr-F.Prefix p o (spelled x))) (spelled_prefix p o x) (from_chain (e.Prefix p o x) (spell (Expr-F.Prefix p o (spelled x))) 0 (omega arith) refl
     (λ ts us h. (let q : Printed (IsChain 0) (next ts) x us = chain_within x (spelled x) px 0 (omega arith) (next ts) us h.1 in
-    record { tree = e.Prefix (place ts) o q.tree; is = g.operand (g.prefixed (taken (prefix_kind o) ts h.0) (prefix_is o) (operand_of q.is)); same = bare_prefix (place ts) o q.tree ∙ ap (e.Prefix start o) q.same ∙ sym (bare_prefix p o x) }))
+    record { tree = e.Prefix (place ts) o q.tree; is = g.operand (g.prefixed (taken (prefix_kind o) ts h.0) (prefix_is o) (operand_of q.is)); same = bare_prefix (place ts) o q.tree ∙ ap (e.Prefix first_place o) q.same ∙ sym (bare_prefix p o x) }))
     (λ _ ts us h. prefix_plain o ts h.0))
 
 -- ---- what follows an expression

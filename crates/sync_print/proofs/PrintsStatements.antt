@@ -1,6 +1,6 @@
 -- What is printed of a program of the grammar is read as it, its places apart.
 use Rattle.std.proofs.Common.{◌≡◌, ℕ, Bool, true, false, List, [], ◌∷◌, ◌++◌, map, Option, Some, None, option_map, refl, sym, subst, ap, ◌∙◌, cond, arith}
-use Rattle.sync_tokens.specs.Places.{start}
+use Rattle.sync_tokens.specs.Places.{first_place}
 use Rattle.sync_tokens.specs.declared.place.Place.{Place}
 use Rattle.sync_tokens.specs.declared.token.Kind.{Kind}
 use Rattle.sync_tokens.specs.declared.token.Kind.TheVariants as kinds
@@ -23,7 +23,7 @@ use Rattle.sync_syntax.specs.declared.tree.Statement.TheVariants as s
 use Rattle.sync_syntax.specs.declared.tree.Writes.{Writes}
 use Rattle.sync_syntax.specs.declared.tree.Writes.TheVariants as writes
 use Rattle.sync_syntax.specs.Reading.{Tokens, kind, next, place, same_word, sees, sees_word, is_word}
-use Rattle.sync_syntax.specs.Operators.{declares_by, writing_by, prefix}
+use Rattle.sync_syntax.specs.Operators.{declares_by, writing_by, prefix_by}
 use Rattle.sync_syntax.specs.Grammar as g
 use Rattle.sync_syntax.specs.Grammar.{Takes, IsExpr, IsChain, IsUnary, IsPrimary, IsNamed, Ends, IsGiven, AreDeclared, IsDeclaration, IsSimple, IsExprOrNone, IsLast, IsStart, IsStatement, IsOtherwise, AreStatements, IsOwnName, IsSecond, IsProgram}
 use Rattle.sync_syntax.specs.Moved.{moved}
@@ -75,8 +75,8 @@ other_token f (kinds.Sign n) x none some = refl
 other_token f kinds.End x none some = refl
 other_token f (kinds.Bad n) x none some = refl
 
-prefix_none : prefix (kinds.Word words.Else) ≡ None
-unfolding prefix
+prefix_none : prefix_by (kinds.Word words.Else) ≡ None
+unfolding prefix_by
 prefix_none = refl
 
 declares_none : declares_by (kinds.Word words.Else) ≡ None
@@ -97,7 +97,7 @@ primary_begins (g.list k h) = no_else _ _ _ k refl
 primary_begins (g.object k h) = no_else _ _ _ k refl
 
 unary_begins : {ts us : Tokens} {x : Expr} → IsUnary ts x us → sees_word words.Else ts ≡ false
-unary_begins (g.prefixed {k = k} {op = o} take is u) = no_else k _ _ take (other_token prefix k o prefix_none is)
+unary_begins (g.prefixed {k = k} {op = o} take is u) = no_else k _ _ take (other_token prefix_by k o prefix_none is)
 unary_begins (g.postfix p h) = primary_begins p
 
 chain_begins : {n : ℕ} {ts us : Tokens} {x : Expr} → IsChain n ts x us → sees_word words.Else ts ≡ false
@@ -210,7 +210,7 @@ declaration_by p how n ns ps = record {
       let r : ((os : List (Named × Option Expr)) × AreDeclared (next ts) os us × (map bare_given os ≡ map bare_given (n ∷ ns))) = more_read ns ps.1 n (next ts) c.middle us o c.rest in (
         record { place = place ts; declares = how; names = r.0 },
         g.declaration (taken (kinds.Word (declares_word how)) ts h.0) (declares_is how) r.1,
-        ap (λ z. record { place = start; declares = how; names = z }) r.2,
+        ap (λ z. record { place = first_place; declares = how; names = z }) r.2,
       ));
 }
 
@@ -264,7 +264,7 @@ simple_prints (g.decrement {n = n} i k is) = record {
 }
 simple_prints (g.value {ts = ps} {x = x} h) = record {
   from = λ ts us j. (let q : Printed IsExpr ts x us × (sees signs.BraceOpen ts ≡ false) = value_by (place ps) x (expr_prints h) (spelled x).object_first refl ts us j in
-      (simples.Value (place ts) q.0.tree, g.value q.0.is, ap (simples.Value start) q.0.same));
+      (simples.Value (place ts) q.0.tree, g.value q.0.is, ap (simples.Value first_place) q.0.same));
   plain = λ ts us j. (value_by (place ps) x (expr_prints h) (spelled x).object_first refl ts us j).1;
 }
 
@@ -354,7 +354,7 @@ statements_read l (x ∷ xs) ps ts us h =
 block_prints : (l other : Bool) (p : Place) (xs : List Statement) → AllPrintAlone l xs → PrintsStatement l other (s.Block p xs)
 block_prints l other p xs ps = layered l other (s.Block p xs) (t.spell_statement (Statement-F.Block p (map t.statement xs))) (spelled_statement_block p xs) (λ ts us h alone_too. (
     let r : ((rs : List Statement) × AreStatements l (next ts) rs us × (map bare_statement rs ≡ map bare_statement xs)) = statements_read l xs ps (next ts) us h.1 in
-    (s.Block (place ts) r.0, g.block (taken (kinds.Sign signs.BraceOpen) ts h.0) r.1, bare_statement_block (place ts) r.0 ∙ ap (s.Block start) r.2 ∙ sym (bare_statement_block p xs))))
+    (s.Block (place ts) r.0, g.block (taken (kinds.Sign signs.BraceOpen) ts h.0) r.1, bare_statement_block (place ts) r.0 ∙ ap (s.Block first_place) r.2 ∙ sym (bare_statement_block p xs))))
 
 ended : (ts us : Tokens) → Shows (sign signs.Semicolon) ts us → Ends ts us
 ended ts us h = g.ended (taken_last (kinds.Sign signs.Semicolon) ts us h)
@@ -387,13 +387,13 @@ return_some_prints : (l other : Bool) (p : Place) (x : Expr) → Prints x → Pr
 return_some_prints l other p x px = layered l other (s.Return p (Some x)) (t.spell_statement (Statement-F.Return p (Some x))) (spelled_statement_return p (Some x)) (λ ts us h alone_too. (
     let c : Split (spelled x).tokens (sign signs.Semicolon) (next ts) us = split (spelled x).tokens (sign signs.Semicolon) (next ts) us h.1 in
     let q : Printed IsExpr (next ts) x c.middle = px.any (next ts) c.middle c.first in
-    (s.Return (place ts) (Some q.tree), g.return_some (taken (kinds.Word words.Return) ts h.0) q.is (ended c.middle us c.rest), bare_statement_return (place ts) (Some q.tree) ∙ ap (λ z. s.Return start (Some z)) q.same ∙ sym (bare_statement_return p (Some x)))))
+    (s.Return (place ts) (Some q.tree), g.return_some (taken (kinds.Word words.Return) ts h.0) q.is (ended c.middle us c.rest), bare_statement_return (place ts) (Some q.tree) ∙ ap (λ z. s.Return first_place (Some z)) q.same ∙ sym (bare_statement_return p (Some x)))))
 
 throw_prints : (l other : Bool) (p : Place) (x : Expr) → Prints x → PrintsStatement l other (s.Throw p x)
 throw_prints l other p x px = layered l other (s.Throw p x) (t.spell_statement (Statement-F.Throw p x)) (spelled_statement_throw p x) (λ ts us h alone_too. (
     let c : Split (spelled x).tokens (sign signs.Semicolon) (next ts) us = split (spelled x).tokens (sign signs.Semicolon) (next ts) us h.1 in
     let q : Printed IsExpr (next ts) x c.middle = px.any (next ts) c.middle c.first in
-    (s.Throw (place ts) q.tree, g.throw (taken (kinds.Word words.Throw) ts h.0) q.is (ended c.middle us c.rest), bare_statement_throw (place ts) q.tree ∙ ap (s.Throw start) q.same ∙ sym (bare_statement_throw p x))))
+    (s.Throw (place ts) q.tree, g.throw (taken (kinds.Word words.Throw) ts h.0) q.is (ended c.middle us c.rest), bare_statement_throw (place ts) q.tree ∙ ap (s.Throw first_place) q.same ∙ sym (bare_statement_throw p x))))
 
 -- ---- statements in statements
 
@@ -421,7 +421,7 @@ if_prints l other p x a px pa none = layered l other (s.If p x a None) (t.spell_
     let r : Read l a c.middle us = pa.from c.middle us k alone_too in (
       s.If (place ts) q.tree r.0 None,
       g.choose (taken (kinds.Word words.If) ts h.0) q.opens q.is q.close r.1 (g.no_else (alone_too none)),
-      bare_statement_if (place ts) q.tree r.0 None ∙ ap (λ z. s.If start z (bare_statement r.0) None) q.same ∙ ap (λ z. s.If start (bare x) z None) r.2 ∙ sym (bare_statement_if p x a None),
+      bare_statement_if (place ts) q.tree r.0 None ∙ ap (λ z. s.If first_place z (bare_statement r.0) None) q.same ∙ ap (λ z. s.If first_place (bare x) z None) r.2 ∙ sym (bare_statement_if p x a None),
     )))
 
 if_else_prints : (l other : Bool) (p : Place) (x : Expr) (a b : Statement) → Prints x → PrintsStatement l true a → PrintsStatement l other b → PrintsStatement l other (s.If p x a (Some b))
@@ -433,7 +433,7 @@ if_else_prints l other p x a b px pa pb = layered l other (s.If p x a (Some b)) 
     let v : Read l b (next d.middle) us = pb.from (next d.middle) us d.rest.1 alone_too in (
       s.If (place ts) q.tree r.0 (Some v.0),
       g.choose (taken (kinds.Word words.If) ts h.0) q.opens q.is q.close r.1 (g.other (taken (kinds.Word words.Else) d.middle d.rest.0) v.1),
-      bare_statement_if (place ts) q.tree r.0 (Some v.0) ∙ ap (λ z. s.If start z (bare_statement r.0) (Some (bare_statement v.0))) q.same ∙ ap (λ z. s.If start (bare x) z (Some (bare_statement v.0))) r.2 ∙ ap (λ z. s.If start (bare x) (bare_statement a) (Some z)) v.2 ∙ sym (bare_statement_if p x a (Some b)),
+      bare_statement_if (place ts) q.tree r.0 (Some v.0) ∙ ap (λ z. s.If first_place z (bare_statement r.0) (Some (bare_statement v.0))) q.same ∙ ap (λ z. s.If first_place (bare x) z (Some (bare_statement v.0))) r.2 ∙ ap (λ z. s.If first_place (bare x) (bare_statement a) (Some z)) v.2 ∙ sym (bare_statement_if p x a (Some b)),
     )))
 
 each_prints : (l other : Bool) (p : Place) (how : Declares) (n : Named) (x : Expr) (a : Statement) → Prints x → PrintsStatement true other a → PrintsStatement l other (s.ForOf p how n x a)
@@ -446,7 +446,7 @@ each_prints l other p how n x a px pa = layered l other (s.ForOf p how n x a) (t
       g.each (taken (kinds.Word words.For) ts h.0) (taken (kinds.Sign signs.ParenOpen) (next ts) c.first.0) (taken (kinds.Word (declares_word how)) (next (next ts)) d.first.0) (declares_is how)
           (named_read n (next (next (next ts))) d.first.1.0) (taken (kinds.Word words.Of) (next (next (next (next ts)))) d.first.1.1.0) q.is
           (taken_last (kinds.Sign signs.ParenClose) d.middle c.middle d.rest) r.1,
-      bare_statement_forof (place ts) how (placed (next (next (next ts))) n) q.tree r.0 ∙ ap (λ z. s.ForOf start how (bare_named n) z (bare_statement r.0)) q.same ∙ ap (s.ForOf start how (bare_named n) (bare x)) r.2 ∙ sym (bare_statement_forof p how n x a),
+      bare_statement_forof (place ts) how (placed (next (next (next ts))) n) q.tree r.0 ∙ ap (λ z. s.ForOf first_place how (bare_named n) z (bare_statement r.0)) q.same ∙ ap (s.ForOf first_place how (bare_named n) (bare x)) r.2 ∙ sym (bare_statement_forof p how n x a),
     )))
 
 abbrev head_tail : Option Expr → Option Simple → List Kind
@@ -468,10 +468,10 @@ repeat_prints l other p begins x step a pb px ps pa = layered l other (s.For p b
     let r : Read true a c.middle us = pa.from c.middle us c.rest alone_too in (
       s.For (place ts) u.0 v.0 w.0 r.0,
       g.repeat (taken (kinds.Word words.For) ts h.0) (taken (kinds.Sign signs.ParenOpen) (next ts) c.first.0) u.1 v.1 w.1 r.1,
-      bare_statement_for (place ts) u.0 v.0 w.0 r.0 ∙ ap (λ z. s.For start z (option_map bare v.0) (option_map bare_simple w.0) (bare_statement r.0)) u.2
-          ∙ ap (λ z. s.For start (option_map bare_start begins) z (option_map bare_simple w.0) (bare_statement r.0)) v.2
-          ∙ ap (λ z. s.For start (option_map bare_start begins) (option_map bare x) z (bare_statement r.0)) w.2
-          ∙ ap (s.For start (option_map bare_start begins) (option_map bare x) (option_map bare_simple step)) r.2 ∙ sym (bare_statement_for p begins x step a),
+      bare_statement_for (place ts) u.0 v.0 w.0 r.0 ∙ ap (λ z. s.For first_place z (option_map bare v.0) (option_map bare_simple w.0) (bare_statement r.0)) u.2
+          ∙ ap (λ z. s.For first_place (option_map bare_start begins) z (option_map bare_simple w.0) (bare_statement r.0)) v.2
+          ∙ ap (λ z. s.For first_place (option_map bare_start begins) (option_map bare x) z (bare_statement r.0)) w.2
+          ∙ ap (s.For first_place (option_map bare_start begins) (option_map bare x) (option_map bare_simple step)) r.2 ∙ sym (bare_statement_for p begins x step a),
     )))
 
 -- ---- statements of the grammar
@@ -534,8 +534,8 @@ program_by own n m p xs ps ts us h end =
       g.program (g.head (taken (kinds.Word words.Function) ts h.0) (own_name_read own (next ts) c.middle c.first) (taken (kinds.Sign signs.ParenOpen) c.middle d.first.0)
           (named_read n (next c.middle) i.first.0) o.1 (taken_last (kinds.Sign signs.ParenClose) i.middle d.middle i.rest))
           (taken (kinds.Sign signs.BraceOpen) d.middle d.rest.0) r.1 g.no_semicolon end,
-      ap (λ z. record { name = own; first = bare_named n; second = z; place = start; body = map bare_statement r.0 }) o.2
-          ∙ ap (λ z. record { name = own; first = bare_named n; second = option_map bare_named m; place = start; body = z }) r.2,
+      ap (λ z. record { name = own; first = bare_named n; second = z; place = first_place; body = map bare_statement r.0 }) o.2
+          ∙ ap (λ z. record { name = own; first = bare_named n; second = option_map bare_named m; place = first_place; body = z }) r.2,
     )
 
 -- what is printed of a program of the grammar is read as it, its places apart

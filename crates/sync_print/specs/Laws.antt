@@ -1,6 +1,6 @@
 -- What holds of every program that is printed.
 use Rattle.std.specs.Prelude.{◌≡◌, ℕ, List, [], ◌∷◌, ◌++◌, ◌+◌, ◌^◌, ◌<◌, ◌≤◌, length, map, Ok, IsUtf8}
-use Rattle.sync_tokens.specs.Places.{start}
+use Rattle.sync_tokens.specs.Places.{first_place}
 use Rattle.sync_tokens.specs.Scan.{tokens_of}
 use Rattle.sync_tokens.specs.declared.token.Kind.{Kind}
 use Rattle.sync_tokens.specs.declared.token.Kind.TheVariants as kinds
@@ -16,7 +16,7 @@ use Rattle.sync_print.specs.Trees.{program}
 
 -- a program without its places
 abbrev pub placeless : Program → Program
-placeless = moved (λ _. start)
+placeless = moved (λ _. first_place)
 
 -- tokens without their places
 abbrev pub kinds_of : List Token → List Kind

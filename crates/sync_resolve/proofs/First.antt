@@ -5,7 +5,7 @@ use Rattle.std.proofs.lemmas.Bool.{cases_eq}
 use Rattle.std.proofs.lemmas.List.Elements.{All-nil, All-cons, Contains-append_left, Contains-append_right, Contains-append_cases, Contains-push}
 use Rattle.sync_tokens.specs.declared.place.Place.{Place}
 use Rattle.sync_resolve.specs.declared.fault.ResolveFault.{ResolveFault}
-use Rattle.sync_resolve.specs.Faults.{place_of, is_count, stands_before, comes_before, earlier, earliest, IsFirst}
+use Rattle.sync_resolve.specs.Faults.{fault_place, is_wrong_count, stands_before, fault_comes_before, earlier, earliest, IsFirstFault}
 
 -- a place that does not stand before another, where they are the same as it is said
 abbrev NotBefore : Bool → Place → Place → Type 0
@@ -47,15 +47,15 @@ places_chain : (a b c : Bool) (p q r : Place) → stands_before (not b && a) q p
     → stands_before (not c && a) r p ≡ false
 places_chain a b c p q r h k = from_not_before (not c && a) r p (chain a b c p q r (to_not_before (not b && a) q p h) (to_not_before (not c && b) r q k))
 
-not_before : (e f g : ResolveFault) → comes_before f e ≡ false → comes_before g f ≡ false → comes_before g e ≡ false
-not_before e f g h k = places_chain (is_count e) (is_count f) (is_count g) (place_of e) (place_of f) (place_of g) h k
+not_before : (e f g : ResolveFault) → fault_comes_before f e ≡ false → fault_comes_before g f ≡ false → fault_comes_before g e ≡ false
+not_before e f g h k = places_chain (is_wrong_count e) (is_wrong_count f) (is_wrong_count g) (fault_place e) (fault_place f) (fault_place g) h k
 
 places_itself : (a : Bool) (p : Place) → stands_before (not a && a) p p ≡ false
 places_itself true p = grind arith
 places_itself false p = grind arith
 
-before_itself : (e : ResolveFault) → comes_before e e ≡ false
-before_itself e = places_itself (is_count e) (place_of e)
+before_itself : (e : ResolveFault) → fault_comes_before e e ≡ false
+before_itself e = places_itself (is_wrong_count e) (fault_place e)
 
 places_turn : (a b : Bool) (p q : Place) → stands_before (not a && b) p q ≡ true → stands_before (not b && a) q p ≡ false
 places_turn true true p q h = grind (arith, h)
@@ -63,42 +63,42 @@ places_turn true false p q h = grind (arith, h)
 places_turn false true p q h = grind (arith, h)
 places_turn false false p q h = grind (arith, h)
 
-turned : (e f : ResolveFault) → comes_before f e ≡ true → comes_before e f ≡ false
-turned e f h = places_turn (is_count f) (is_count e) (place_of f) (place_of e) h
+turned : (e f : ResolveFault) → fault_comes_before f e ≡ true → fault_comes_before e f ≡ false
+turned e f h = places_turn (is_wrong_count f) (is_wrong_count e) (fault_place f) (fault_place e) h
 
 -- of a fault and more the one that is found
 record Found (e : ResolveFault) (fs : List ResolveFault) : Type 0 where
   fault : ResolveFault
   found : earliest (Some e) fs ≡ Some fault
   is_one : Contains (e ∷ fs) fault
-  before : comes_before e fault ≡ false
-  first : All (λ f. comes_before f fault ≡ false) fs
+  before : fault_comes_before e fault ≡ false
+  first : All (λ f. fault_comes_before f fault ≡ false) fs
 
 further : (e f r : ResolveFault) (fs : List ResolveFault) → Contains (e ∷ []) r ⊎ Contains fs r → Contains (e ∷ f ∷ fs) r
 further e f r fs (inl h) = Contains-append_left (e ∷ []) (f ∷ fs) r h
 further e f r fs (inr h) = Contains-append_right (e ∷ f ∷ []) fs r h
 
-take_new : (e f : ResolveFault) (fs : List ResolveFault) → comes_before f e ≡ true → Found f fs → Found e (f ∷ fs)
+take_new : (e f : ResolveFault) (fs : List ResolveFault) → fault_comes_before f e ≡ true → Found f fs → Found e (f ∷ fs)
 unfolding earlier
 take_new e f fs h r = record {
   fault = r.fault;
   found = ap (λ b. earliest (if b then Some f else Some e) fs) h ∙ r.found;
   is_one = Contains-append_right (e ∷ []) (f ∷ fs) r.fault r.is_one;
   before = not_before r.fault f e r.before (turned e f h);
-  first = All-cons (λ g. comes_before g r.fault ≡ false) f fs r.before r.first;
+  first = All-cons (λ g. fault_comes_before g r.fault ≡ false) f fs r.before r.first;
 }
 
-take_old : (e f : ResolveFault) (fs : List ResolveFault) → comes_before f e ≡ false → Found e fs → Found e (f ∷ fs)
+take_old : (e f : ResolveFault) (fs : List ResolveFault) → fault_comes_before f e ≡ false → Found e fs → Found e (f ∷ fs)
 unfolding earlier
 take_old e f fs h r = record {
   fault = r.fault;
   found = ap (λ b. earliest (if b then Some f else Some e) fs) h ∙ r.found;
   is_one = further e f r.fault fs (Contains-append_cases (e ∷ []) fs r.fault r.is_one);
   before = r.before;
-  first = All-cons (λ g. comes_before g r.fault ≡ false) f fs (not_before r.fault e f r.before h) r.first;
+  first = All-cons (λ g. fault_comes_before g r.fault ≡ false) f fs (not_before r.fault e f r.before h) r.first;
 }
 
-take : (b : Bool) (e f : ResolveFault) (fs : List ResolveFault) → comes_before f e ≡ b → Found e fs → Found f fs → Found e (f ∷ fs)
+take : (b : Bool) (e f : ResolveFault) (fs : List ResolveFault) → fault_comes_before f e ≡ b → Found e fs → Found f fs → Found e (f ∷ fs)
 take true e f fs h old new = take_new e f fs h new
 take false e f fs h old new = take_old e f fs h old
 
@@ -108,21 +108,21 @@ find e [] = record {
   found = refl;
   is_one = Contains-push [] e;
   before = before_itself e;
-  first = All-nil (λ g. comes_before g e ≡ false);
+  first = All-nil (λ g. fault_comes_before g e ≡ false);
 }
-find e (f ∷ fs) = take (comes_before f e) e f fs refl (find e fs) (find f fs)
+find e (f ∷ fs) = take (fault_comes_before f e) e f fs refl (find e fs) (find f fs)
 
-is_first : (e : ResolveFault) (fs : List ResolveFault) (r : Found e fs) → IsFirst r.fault (e ∷ fs)
-is_first e fs r = record { is_one = r.is_one; first = All-cons (λ g. comes_before g r.fault ≡ false) e fs r.before r.first }
+is_first : (e : ResolveFault) (fs : List ResolveFault) (r : Found e fs) → IsFirstFault r.fault (e ∷ fs)
+is_first e fs r = record { is_one = r.is_one; first = All-cons (λ g. fault_comes_before g r.fault ≡ false) e fs r.before r.first }
 
 -- where something is found it is the first
-pub found_first : (fs : List ResolveFault) (e : ResolveFault) → earliest None fs ≡ Some e → IsFirst e fs
+pub found_first : (fs : List ResolveFault) (e : ResolveFault) → earliest None fs ≡ Some e → IsFirstFault e fs
 unfolding earlier
 found_first [] e h = cc (h)
 found_first (f ∷ fs) e h =
     let r = find f fs in
     let same : r.fault ≡ e = cc (sym r.found ∙ h) in
-    subst (λ g. IsFirst g (f ∷ fs)) same (is_first f fs r)
+    subst (λ g. IsFirstFault g (f ∷ fs)) same (is_first f fs r)
 
 -- where nothing is found there is none
 pub found_none : (fs : List ResolveFault) → earliest None fs ≡ None → fs ≡ []

@@ -48,9 +48,9 @@ call_faults p None n = UnknownName p ∷ []
 call_faults p (Some t) n = if fits t n then [] else WrongCount p ∷ []
 
 -- the faults of expressions whose values are wanted, in order
-abbrev pub values : List Said → Faults
-values [] scope = []
-values (e ∷ es) scope = e.faults false scope ++ values es scope
+abbrev pub values_faults : List Said → Faults
+values_faults [] scope = []
+values_faults (e ∷ es) scope = e.faults false scope ++ values_faults es scope
 
 -- ---- what follows an expression
 
@@ -72,18 +72,18 @@ suffix_says (Suffix-F.Call es) = record {
   is_call = true;
   is_array_member = false;
   takes = None;
-  faults = λ p t scope. call_faults p t (length es) ++ values es scope;
+  faults = λ p t scope. call_faults p t (length es) ++ values_faults es scope;
 }
 
 -- whether a call comes next; behind the last suffix as it is said
-abbrev pub is_called : Bool → List SaidBehind → Bool
-is_called behind [] = behind
-is_called behind (s ∷ ss) = s.is_call
+abbrev pub is_said_called : Bool → List SaidBehind → Bool
+is_said_called behind [] = behind
+is_said_called behind (s ∷ ss) = s.is_call
 
 -- `Array.isArray` before a call, in which `Array` is no name of a variable
-abbrev pub calls_is_array : Bool → Said → List SaidBehind → Bool
-calls_is_array behind first [] = false
-calls_is_array behind first (s ∷ ss) = first.is_array && (s.is_array_member && is_called behind ss)
+abbrev pub says_is_array : Bool → Said → List SaidBehind → Bool
+says_is_array behind first [] = false
+says_is_array behind first (s ∷ ss) = first.is_array && (s.is_array_member && is_said_called behind ss)
 
 -- how many arguments a call takes behind a suffix; behind `Array.isArray` one
 abbrev pub takes_next : Bool → SaidBehind → Option Takes
@@ -91,9 +91,9 @@ takes_next is_array s = if is_array then Some takes.One else s.takes
 
 -- the faults of suffixes from left to right, by what a call of what stands before them takes; the second argument says
 -- whether the first of them is that of `Array.isArray`
-abbrev pub suffixes : Place → Bool → Option Takes → List SaidBehind → Faults
-suffixes p is_array t [] scope = []
-suffixes p is_array t (s ∷ ss) scope = s.faults p t scope ++ suffixes p false (takes_next is_array s) ss scope
+abbrev pub suffixes_faults : Place → Bool → Option Takes → List SaidBehind → Faults
+suffixes_faults p is_array t [] scope = []
+suffixes_faults p is_array t (s ∷ ss) scope = s.faults p t scope ++ suffixes_faults p false (takes_next is_array s) ss scope
 
 -- how many arguments a call takes behind suffixes
 abbrev pub takes_behind : Bool → Option Takes → List SaidBehind → Option Takes
@@ -101,20 +101,20 @@ takes_behind is_array t [] = t
 takes_behind is_array t (s ∷ ss) = takes_behind false (takes_next is_array s) ss
 
 -- an expression with suffixes; the first argument says whether a call follows
-abbrev pub postfix : Bool → Said → List SaidBehind → Faults
-postfix behind first ss scope =
-    if calls_is_array behind first ss then suffixes first.place true None ss scope
-    else first.faults (is_called behind ss) scope ++ suffixes first.place false first.takes ss scope
+abbrev pub postfix_faults : Bool → Said → List SaidBehind → Faults
+postfix_faults behind first ss scope =
+    if says_is_array behind first ss then suffixes_faults first.place true None ss scope
+    else first.faults (is_said_called behind ss) scope ++ suffixes_faults first.place false first.takes ss scope
 
 -- how many arguments a call of an expression with suffixes takes
 abbrev pub postfix_takes : Said → List SaidBehind → Option Takes
-postfix_takes first ss = if calls_is_array true first ss then takes_behind true None ss else takes_behind false first.takes ss
+postfix_takes first ss = if says_is_array true first ss then takes_behind true None ss else takes_behind false first.takes ss
 
 -- ---- expressions
 
 -- what can't be called
-abbrev pub plain : Place → Faults → Said
-plain p faults = record { place = p; is_array = false; faults = λ called. faults; takes = None }
+abbrev pub plain_said : Place → Faults → Said
+plain_said p faults = record { place = p; is_array = false; faults = λ called. faults; takes = None }
 
 -- nothing is wrong
 abbrev pub nothing : Faults
@@ -126,9 +126,9 @@ operands [] scope = []
 operands (o ∷ os) scope = o.1.faults false scope ++ operands os scope
 
 -- the values of members
-abbrev pub members : List (List ℕ × Said) → Faults
-members [] scope = []
-members (m ∷ ms) scope = m.1.faults false scope ++ members ms scope
+abbrev pub members_faults : List (List ℕ × Said) → Faults
+members_faults [] scope = []
+members_faults (m ∷ ms) scope = m.1.faults false scope ++ members_faults ms scope
 
 -- a name: where it is called it is that of a function, else it stands for a variable
 abbrev pub name_faults : Place → List ℕ → Bool → Faults
@@ -137,28 +137,28 @@ name_faults p n false scope = used p n scope
 
 -- one level of an expression, by what is said of the expressions in it
 abbrev pub expr_says : Expr-F Said SaidBehind → Said
-expr_says (Expr-F.Undefined p) = plain p nothing
-expr_says (Expr-F.Null p) = plain p nothing
-expr_says (Expr-F.Bool p b) = plain p nothing
-expr_says (Expr-F.Integer p n) = plain p nothing
-expr_says (Expr-F.Text p s) = plain p nothing
+expr_says (Expr-F.Undefined p) = plain_said p nothing
+expr_says (Expr-F.Null p) = plain_said p nothing
+expr_says (Expr-F.Bool p b) = plain_said p nothing
+expr_says (Expr-F.Integer p n) = plain_said p nothing
+expr_says (Expr-F.Text p s) = plain_said p nothing
 expr_says (Expr-F.Name p n) = record {
   place = p;
   is_array = bytes_eq n (codes "Array");
   faults = name_faults p n;
   takes = function_takes n;
 }
-expr_says (Expr-F.List p es) = plain p (values es)
-expr_says (Expr-F.Object p ms) = plain p (members ms)
-expr_says (Expr-F.Prefix p o e) = plain p (e.faults false)
+expr_says (Expr-F.List p es) = plain_said p (values_faults es)
+expr_says (Expr-F.Object p ms) = plain_said p (members_faults ms)
+expr_says (Expr-F.Prefix p o e) = plain_said p (e.faults false)
 expr_says (Expr-F.Postfix first ss) = record {
   place = first.place;
   is_array = false;
-  faults = λ called. postfix called first ss;
+  faults = λ called. postfix_faults called first ss;
   takes = postfix_takes first ss;
 }
-expr_says (Expr-F.Chain first os) = plain first.place (λ scope. first.faults false scope ++ operands os scope)
-expr_says (Expr-F.Choice c x y) = plain c.place (λ scope. c.faults false scope ++ x.faults false scope ++ y.faults false scope)
+expr_says (Expr-F.Chain first os) = plain_said first.place (λ scope. first.faults false scope ++ operands os scope)
+expr_says (Expr-F.Choice c x y) = plain_said c.place (λ scope. c.faults false scope ++ x.faults false scope ++ y.faults false scope)
 
 -- what is said of an expression
 abbrev pub said : Expr → Said

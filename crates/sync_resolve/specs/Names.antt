@@ -16,9 +16,9 @@ use Rattle.sync_resolve.specs.declared.scope.Scope.{Scope}
 -- ---- the functions that are built in
 
 -- what stands first under a name
-abbrev pub lookup : {A : Type 0} → List (List ℕ × A) → List ℕ → Option A
-lookup [] name = None
-lookup (f ∷ fs) name = if bytes_eq name f.0 then Some f.1 else lookup fs name
+abbrev pub lookup_name : {A : Type 0} → List (List ℕ × A) → List ℕ → Option A
+lookup_name [] name = None
+lookup_name (f ∷ fs) name = if bytes_eq name f.0 then Some f.1 else lookup_name fs name
 
 -- the functions that are built in, and how many arguments each takes; `Array.isArray` apart
 abbrev pub functions : List (List ℕ × Takes)
@@ -27,16 +27,16 @@ functions =
     (codes "requireRole", takes.One) ∷ (codes "requireAccess", takes.One) ∷ (codes "requireAdmin", takes.Nothing) ∷ []
 
 -- the methods of values, each of which takes one argument
-abbrev pub methods : List (List ℕ × Takes)
-methods = (codes "indexOf", takes.One) ∷ (codes "concat", takes.One) ∷ (codes "startsWith", takes.One) ∷ []
+abbrev pub known_methods : List (List ℕ × Takes)
+known_methods = (codes "indexOf", takes.One) ∷ (codes "concat", takes.One) ∷ (codes "startsWith", takes.One) ∷ []
 
 -- how many arguments the function of this name takes, if there is one
 unfoldable pub function_takes : List ℕ → Option Takes
-function_takes name = lookup functions name
+function_takes name = lookup_name functions name
 
 -- how many arguments the method of this name takes, if there is one
 unfoldable pub method_takes : List ℕ → Option Takes
-method_takes name = lookup methods name
+method_takes name = lookup_name known_methods name
 
 -- whether there is something
 abbrev pub is_there : {A : Type 0} → Option A → Bool
@@ -50,13 +50,13 @@ is_function name = is_there (function_takes name)
 -- ---- what is seen
 
 -- what stands last under a name, else what was found before
-abbrev pub last_from : {A : Type 0} → List ℕ → Option A → List (List ℕ × A) → Option A
-last_from name found [] = found
-last_from name found (m ∷ ms) = last_from name (if bytes_eq name m.0 then Some m.1 else found) ms
+abbrev pub last_under : {A : Type 0} → List ℕ → Option A → List (List ℕ × A) → Option A
+last_under name found [] = found
+last_under name found (m ∷ ms) = last_under name (if bytes_eq name m.0 then Some m.1 else found) ms
 
 -- the variable of `let` or `const` that a name stands for: of those that are seen the latest
 unfoldable pub bound : List ℕ → Scope → Option Bound
-bound name scope = last_from name None scope.seen
+bound name scope = last_under name None scope.seen
 
 -- whether a name is that of a parameter or is declared by `var` anywhere in the function
 unfoldable pub is_own : List ℕ → Scope → Bool
@@ -86,8 +86,8 @@ is_constant (Some b) = b.constant
 is_constant None = false
 
 -- a name that is written stands for a variable, and for no constant
-unfoldable pub written : Named → Scope → List ResolveFault
-written n scope = if is_known n.name scope then unless (not (is_constant (bound n.name scope))) (ConstWritten n.place) else UnknownName n.place ∷ []
+unfoldable pub written_faults : Named → Scope → List ResolveFault
+written_faults n scope = if is_known n.name scope then unless (not (is_constant (bound n.name scope))) (ConstWritten n.place) else UnknownName n.place ∷ []
 
 -- ---- what is declared
 
@@ -111,10 +111,10 @@ abbrev pub Variable : Type 0
 Variable = List ℕ × Bound
 
 -- the variable that a declaration gives to what follows in its block
-abbrev pub declared : Declares → List ℕ → Scope → List Variable
-declared Var name scope = []
-declared Let name scope = (name, record { block = scope.block; constant = false }) ∷ []
-declared Const name scope = (name, record { block = scope.block; constant = true }) ∷ []
+abbrev pub declared_variables : Declares → List ℕ → Scope → List Variable
+declared_variables Var name scope = []
+declared_variables Let name scope = (name, record { block = scope.block; constant = false }) ∷ []
+declared_variables Const name scope = (name, record { block = scope.block; constant = true }) ∷ []
 
 -- what is seen where these are declared besides
 unfoldable pub more : Scope → List Variable → Scope
@@ -125,5 +125,5 @@ unfoldable pub inside : Scope → Scope
 inside scope = record { own = scope.own; seen = scope.seen; block = scope.block + 1 }
 
 -- what is seen at the beginning of a function with these names of its own
-abbrev pub top : List (List ℕ) → Scope
-top own = record { own = own; seen = []; block = 0 }
+abbrev pub top_scope : List (List ℕ) → Scope
+top_scope own = record { own = own; seen = []; block = 0 }

@@ -5,7 +5,7 @@ use Rattle.sync_syntax.specs.declared.tree.Named.{Named}
 use Rattle.sync_syntax.specs.declared.tree.Program.{Program}
 use Rattle.sync_resolve.specs.declared.fault.ResolveFault.{ResolveFault}
 use Rattle.sync_resolve.specs.declared.scope.Scope.{Scope}
-use Rattle.sync_resolve.specs.Names.{once, top, inside}
+use Rattle.sync_resolve.specs.Names.{once, top_scope, inside}
 use Rattle.sync_resolve.specs.Statements.{all_var_names, walk_all}
 
 -- the name of the second parameter, if there is one
@@ -28,7 +28,7 @@ parameter_faults p scope = once Var p.first scope ++ second_faults p.second scop
 
 -- the faults of a program's names, in the order of the tree
 unfoldable pub faults : Program → List ResolveFault
-faults p = let scope = top (own_names p) in parameter_faults p scope ++ (walk_all p.body (inside scope)).0
+faults p = let scope = top_scope (own_names p) in parameter_faults p scope ++ (walk_all p.body (inside scope)).0
 
 -- a program whose names all stand for something
 abbrev pub IsResolved : Program → Type 0

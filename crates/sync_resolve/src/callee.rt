@@ -30,7 +30,7 @@ impl Takes {
 
 /// How many arguments the function of this name takes by which a rule denies, if there is one.
 fn rule_takes(name: &str) -> Option<Takes>
-    ensures { result ≡ spec.lookup rules name.now }
+    ensures { result ≡ spec.lookup_name rules name.now }
 {
     if name == "requireUser" || name == "requireRole" || name == "requireAccess" {
         Some(Takes::One)

@@ -59,7 +59,7 @@ fn is_call(suffix: &Suffix) -> bool
 
 /// Whether a call comes next; behind the last suffix as it is said.
 fn is_called(behind: bool, suffixes: &[Suffix]) -> bool
-    ensures { result ≡ spec.is_called behind (map said_behind suffixes.now) }
+    ensures { result ≡ spec.is_said_called behind (map said_behind suffixes.now) }
 {
     match suffixes {
         [next, ..] => is_call(next),
@@ -69,7 +69,7 @@ fn is_called(behind: bool, suffixes: &[Suffix]) -> bool
 
 /// Whether this is `Array.isArray` before a call.
 fn calls_is_array(behind: bool, first: &Expr, suffixes: &[Suffix]) -> bool
-    ensures { result ≡ spec.calls_is_array behind (said first.now) (map said_behind suffixes.now) }
+    ensures { result ≡ spec.says_is_array behind (said first.now) (map said_behind suffixes.now) }
 {
     match suffixes {
         [next, rest @ ..] => {
@@ -219,7 +219,7 @@ fn suffixes(
     found: &[Suffix],
 )
     ensures { first.new ≡ earliest first.old
-        (spec.suffixes place is_array callee (map said_behind found.now) scope.now) }
+        (spec.suffixes_faults place is_array callee (map said_behind found.now) scope.now) }
 {
     let mut array = is_array;
     let mut takes = callee;
@@ -256,7 +256,7 @@ fn suffix(
 #[cycle(names)]
 #[tactic(auto, using(crate::proofs::Steps::expr_steps))]
 fn values(first: &mut Option<ResolveFault>, scope: &Scope, exprs: &[Expr])
-    ensures { first.new ≡ earliest first.old (spec.values (map said exprs.now) scope.now) }
+    ensures { first.new ≡ earliest first.old (spec.values_faults (map said exprs.now) scope.now) }
 {
     for expr in exprs {
         names(first, scope, expr, false);
@@ -268,7 +268,7 @@ fn values(first: &mut Option<ResolveFault>, scope: &Scope, exprs: &[Expr])
 #[tactic(auto, using(crate::proofs::Steps::expr_steps))]
 fn members(first: &mut Option<ResolveFault>, scope: &Scope, exprs: &[(DocText, Expr)])
     ensures { first.new ≡ earliest first.old
-        (spec.members (map (λ m. (m.0, said m.1)) exprs.now) scope.now) }
+        (spec.members_faults (map (λ m. (m.0, said m.1)) exprs.now) scope.now) }
 {
     for expr in exprs {
         names(first, scope, &expr.1, false);

@@ -36,7 +36,7 @@ impl From<AllocError> for ResolveFault {
 }
 
 fn place_of(fault: ResolveFault) -> Place
-    ensures { result ≡ spec.place_of fault }
+    ensures { result ≡ spec.fault_place fault }
 {
     match fault {
         ResolveFault::UnknownName(place)
@@ -48,14 +48,14 @@ fn place_of(fault: ResolveFault) -> Place
 }
 
 fn is_count(fault: ResolveFault) -> bool
-    ensures { result ≡ spec.is_count fault }
+    ensures { result ≡ spec.is_wrong_count fault }
 {
     matches!(fault, ResolveFault::WrongCount(_))
 }
 
 /// Whether one fault comes before another: by its place, and at one place a count comes last.
 fn comes_before(fault: ResolveFault, other: ResolveFault) -> bool
-    ensures { result ≡ spec.comes_before fault other }
+    ensures { result ≡ spec.fault_comes_before fault other }
 {
     let place = place_of(fault);
     let other_place = place_of(other);

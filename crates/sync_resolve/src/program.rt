@@ -3,7 +3,7 @@
 ghost use Rattle.std.specs.Prelude.{◌≡◌, ◌≢◌, ◌++◌, [], is_some, None, IfErr, IfOk, OnOk};
 ghost use Rattle.sync_code.specs.Made.{IsCodeOf};
 ghost use Rattle.sync_resolve.specs.declared.fault.ResolveFault.TheVariants.{Memory};
-ghost use Rattle.sync_resolve.specs.Faults.{IsFirst, earliest};
+ghost use Rattle.sync_resolve.specs.Faults.{IsFirstFault, earliest};
 ghost use Rattle.sync_resolve.specs.Names.{inside};
 ghost use Rattle.sync_resolve.specs.Resolving as spec;
 ghost use Rattle.sync_resolve.specs.Resolving.{IsResolved, faults};
@@ -116,7 +116,7 @@ fn first_fault(alloc: Global, program: &tree::Program) -> Result<Option<ResolveF
 /// Whether a program's names have no fault, or else the first.
 fn check(alloc: Global, program: &tree::Program) -> Result<(), ResolveFault>
     ensures ok { IfOk result (λ _. IsResolved program.now) }
-    ensures fault { IfErr result (λ e. e ≢ Memory → IsFirst e (faults program.now)) }
+    ensures fault { IfErr result (λ e. e ≢ Memory → IsFirstFault e (faults program.now)) }
 {
     let first = first_fault(alloc, program)?;
     match first {
@@ -128,7 +128,7 @@ fn check(alloc: Global, program: &tree::Program) -> Result<(), ResolveFault>
 /// The code of a program, where its names have no fault.
 fn code_of(alloc: Global, program: &tree::Program) -> Result<ProgramCode, ResolveFault>
     ensures ok { IfOk result (λ code. IsResolved program.now × IsCodeOf code program.now) }
-    ensures fault { IfErr result (λ e. e ≢ Memory → IsFirst e (faults program.now)) }
+    ensures fault { IfErr result (λ e. e ≢ Memory → IsFirstFault e (faults program.now)) }
 {
     check(alloc, program)?;
     Ok(code_of_program(alloc, program)?)
@@ -140,7 +140,7 @@ pub fn resolve(alloc: Global, program: Program) -> Result<Resolved, ResolveFault
     // It is the program, where its names have no fault.
     ensures ok { IfOk result (λ resolved. (resolved ≡ program) × IsResolved program) }
     // Else it is the first fault, but for `Memory`.
-    ensures fault { IfErr result (λ e. e ≢ Memory → IsFirst e (faults program)) }
+    ensures fault { IfErr result (λ e. e ≢ Memory → IsFirstFault e (faults program)) }
 {
     match code_of(alloc, program.as_tree()) {
         Ok(code) => Ok(Resolved { program, code }),

@@ -35,7 +35,7 @@ pub struct Scope {
 
 /// What stands last under a name.
 fn last_named(name: &str, seen: &[(DocText, Bound)]) -> Option<Bound>
-    ensures { result ≡ spec.last_from name.now None seen.now }
+    ensures { result ≡ spec.last_under name.now None seen.now }
 {
     let mut found = None;
     let mut left = seen;
@@ -65,7 +65,7 @@ fn is_one(name: &str, names: &[DocText]) -> bool
 impl Scope {
     /// What is seen at the beginning of a function with these names of its own.
     pub(crate) fn top(alloc: Global, own: Items<DocText>) -> Scope
-        ensures { result ≡ spec.top own }
+        ensures { result ≡ spec.top_scope own }
     {
         Scope {
             own,
@@ -123,9 +123,9 @@ impl Scope {
     }
 
     /// A name that is written.
-    #[tactic(auto, unfolding(crate::specs::Names::written))]
+    #[tactic(auto, unfolding(crate::specs::Names::written_faults))]
     pub(crate) fn written(&self, first: &mut Option<ResolveFault>, named: &Named)
-        ensures { first.new ≡ earliest first.old (spec.written named.now self.now) }
+        ensures { first.new ≡ earliest first.old (spec.written_faults named.now self.now) }
     {
         let name = named.name.as_str();
         if !self.is_known(name) {
@@ -214,7 +214,7 @@ impl Scope {
         name: &DocText,
     ) -> Result<(), Memory>
         ensures { OnOk result (self.new ≡ spec.more self.old
-            (spec.declared declares name.now self.old)) }
+            (spec.declared_variables declares name.now self.old)) }
     {
         match declares {
             Declares::Var => Ok(()),

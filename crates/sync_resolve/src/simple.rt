@@ -37,9 +37,9 @@ fn declare_one(
     found: &(Named, Option<Boxed<Expr>>),
 ) -> Result<(), Memory>
     ensures faults { first.new ≡ earliest first.old
-        (spec.declare_one declares found.now.0 found.now.1 scope.old).0 }
+        (spec.declared_walk declares found.now.0 found.now.1 scope.old).0 }
     ensures seen { OnOk result (scope.new
-        ≡ more scope.old (spec.declare_one declares found.now.0 found.now.1 scope.old).1) }
+        ≡ more scope.old (spec.declared_walk declares found.now.0 found.now.1 scope.old).1) }
 {
     scope.once(first, declares, &found.0);
     value_or_none(first, scope, &found.1);
@@ -56,9 +56,9 @@ pub(crate) fn declare_all(
     found: &[(Named, Option<Boxed<Expr>>)],
 ) -> Result<(), Memory>
     ensures faults { OnOk result (first.new ≡ earliest first.old
-        (spec.declare_all declares found.now scope.old).0) }
+        (spec.declaration_walk declares found.now scope.old).0) }
     ensures seen { OnOk result (scope.new
-        ≡ more scope.old (spec.declare_all declares found.now scope.old).1) }
+        ≡ more scope.old (spec.declaration_walk declares found.now scope.old).1) }
 {
     for one in found {
         declare_one(alloc, first, scope, declares, one)?;
@@ -69,7 +69,7 @@ pub(crate) fn declare_all(
 /// A simple statement.
 #[tactic(auto, using(crate::proofs::Earliest::earliest_append))]
 pub(crate) fn simple(first: &mut Option<ResolveFault>, scope: &Scope, simple: &Simple)
-    ensures { first.new ≡ earliest first.old (spec.simple simple.now scope.now) }
+    ensures { first.new ≡ earliest first.old (spec.simple_faults simple.now scope.now) }
 {
     match simple {
         Simple::Write(name, _, expr) => {
@@ -113,8 +113,8 @@ fn start(
     start: &Option<Boxed<Start>>,
 ) -> Result<(), Memory>
     ensures faults { OnOk result (first.new
-        ≡ earliest first.old (spec.start start.now scope.old).0) }
-    ensures seen { OnOk result (scope.new ≡ more scope.old (spec.start start.now scope.old).1) }
+        ≡ earliest first.old (spec.for_start start.now scope.old).0) }
+    ensures seen { OnOk result (scope.new ≡ more scope.old (spec.for_start start.now scope.old).1) }
 {
     match start {
         Some(start) => match start.get() {
@@ -141,9 +141,9 @@ fn head(
     last: &Option<Boxed<Simple>>,
 ) -> Result<(), Memory>
     ensures faults { OnOk result (first.new ≡ earliest first.old
-        (spec.head begin.now test.now last.now scope.old).0) }
+        (spec.for_head begin.now test.now last.now scope.old).0) }
     ensures seen { OnOk result (scope.new ≡ more scope.old
-        (spec.head begin.now test.now last.now scope.old).1) }
+        (spec.for_head begin.now test.now last.now scope.old).1) }
 {
     start(alloc, first, scope, begin)?;
     condition(first, scope, test, last);
@@ -161,9 +161,9 @@ pub(crate) fn begin_for(
 ) -> Result<usize, Memory>
     ensures count { IfOk result (λ count. count ≡ length scope.old.seen) }
     ensures faults { OnOk result (first.new ≡ earliest first.old
-        (spec.head begin.now test.now last.now (inside scope.old)).0) }
+        (spec.for_head begin.now test.now last.now (inside scope.old)).0) }
     ensures seen { OnOk result (scope.new ≡ more (inside scope.old)
-        (spec.head begin.now test.now last.now (inside scope.old)).1) }
+        (spec.for_head begin.now test.now last.now (inside scope.old)).1) }
 {
     let count = scope.seen.len();
     scope.enter()?;

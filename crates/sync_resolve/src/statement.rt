@@ -93,7 +93,7 @@ fn block(
     found: &[Statement],
 ) -> Result<(), Memory>
     ensures faults { OnOk result (first.new ≡ earliest first.old
-        (spec.block (spec.walk_all found.now) scope.old).0) }
+        (spec.block_walk (spec.walk_all found.now) scope.old).0) }
     ensures seen { OnOk result (scope.new ≡ more scope.old []) }
 {
     let count = scope.seen.len();

@@ -8,7 +8,7 @@ use Rattle.sync_tokens.specs.declared.token.Sign.{Sign}
 use Rattle.sync_tokens.specs.declared.token.Token.{Token}
 use Rattle.sync_tokens.specs.declared.token.Word.{Word}
 use Rattle.sync_syntax.specs.declared.fault.ParseFault.{ParseFault}
-use Rattle.sync_syntax.specs.Reading.{Tokens, Outcome, Rule, and_then, kind, next, place, sees, sees_word, after, after_word, expect, expect_word, name_by, name, refuse, refusal, too_deep}
+use Rattle.sync_syntax.specs.Reading.{Tokens, Outcome, Rule, read_then, kind, next, place, sees, sees_word, after, after_word, expect, expect_word, name_by, name_rule, refuse, refused_at, too_deep}
 use Rattle.sync_syntax.specs.Faults.{is_written}
 use Rattle.sync_syntax.specs.Grammar.{Takes}
 use Rattle.sync_syntax.proofs.Holds.{sees-takes, sees_word-takes}
@@ -31,7 +31,7 @@ pub record Passes {A : Type 0} (k : Bool) (rule : ℕ → Rule A) (ts : Tokens) 
 pub data Stops {A : Type 0} (k : Bool) (rule : ℕ → Rule A) (ts : Tokens) (e : ParseFault) : Type 0 where
   deep : (before : Tokens) (token : Token) (rest : Tokens) → ts ≡ before ++ token ∷ rest → Some k before → e ≡ too_deep (token ∷ rest)
       → ((other : Tokens) → is_written token.kind (kind other) ≡ false → AreTokens (before ++ token ∷ other) → rule 0 (before ++ token ∷ other) ≡ Err e) → Stops k rule ts e
-  unexpected : (before : Tokens) (token : Token) (rest : Tokens) → ts ≡ before ++ token ∷ rest → Some k before → e ≡ refusal (token ∷ rest)
+  unexpected : (before : Tokens) (token : Token) (rest : Tokens) → ts ≡ before ++ token ∷ rest → Some k before → e ≡ refused_at (token ∷ rest)
       → ((m : ℕ) (other : Tokens) → AreTokens (before ++ token ∷ other) → rule m (before ++ token ∷ other) ≡ Err e) → Stops k rule ts e
 
 abbrev pub Alike : {A : Type 0} → Bool → Outcome A → (ℕ → Rule A) → Tokens → Type 0
@@ -69,7 +69,7 @@ replay k rule ts x us p (v ∷ vs) t r is m other a =
 
 module _ {A B : Type 0} (k : Bool) (rule : ℕ → Rule A) (more : ℕ → A → Rule B) (ts : Tokens) (x : A) (us : Tokens) (p : Passes k rule ts x us) where
   abbrev both : ℕ → Rule B
-  both m vs = and_then (rule m vs) (more m)
+  both m vs = read_then (rule m vs) (more m)
 
   split_both : (before : Tokens) (t : Token) (r : Tokens) → us ≡ before ++ t ∷ r → ts ≡ (p.before ++ before) ++ t ∷ r
   split_both before t r is = p.split ∙ ap (λ z. p.before ++ z) (sym p.behind ∙ is) ∙ sym (append_assoc p.before before (t ∷ r))
@@ -80,7 +80,7 @@ module _ {A B : Type 0} (k : Bool) (rule : ℕ → Rule A) (more : ℕ → A →
   run_both before t r out m other is a h =
       let e : (p.before ++ before) ++ t ∷ other ≡ p.before ++ (before ++ t ∷ other) = append_assoc p.before before (t ∷ other) in
       let b : AreTokens (p.before ++ (before ++ t ∷ other)) = subst AreTokens e a in
-      ap (λ z. and_then (rule m z) (more m)) e ∙ ap (λ z. and_then z (more m)) (replay k rule ts x us p before t r is m other b) ∙ h (are_rest p.before before t other b)
+      ap (λ z. read_then (rule m z) (more m)) e ∙ ap (λ z. read_then z (more m)) (replay k rule ts x us p before t r is m other b) ∙ h (are_rest p.before before t other b)
 
   pub second_alike : (q : Outcome B) → Alike false q (λ m. more m x) us → Alike k q both ts
   second_alike (Ok y) q = record {
@@ -99,10 +99,10 @@ module _ {A B : Type 0} (k : Bool) (rule : ℕ → Rule A) (more : ℕ → A →
       unexpected (p.before ++ before) t r (split_both before t r is) (some_more k p.before before p.some) fault (λ m other a. run_both before t r (Err e) m other is a (h m other))
 
 pub bind_alike : {A B : Type 0} (k : Bool) (r : Outcome A) (rule : ℕ → Rule A) (f : A → Rule B) (more : ℕ → A → Rule B) (ts : Tokens) → Alike k r rule ts
-    → ((x : A) (us : Tokens) → r ≡ Ok (x, us) → AreTokens us → Alike false (f x us) (λ m. more m x) us) → Alike k (and_then r f) (λ m vs. and_then (rule m vs) (more m)) ts
+    → ((x : A) (us : Tokens) → r ≡ Ok (x, us) → AreTokens us → Alike false (f x us) (λ m. more m x) us) → Alike k (read_then r f) (λ m vs. read_then (rule m vs) (more m)) ts
 bind_alike k (Ok p) rule f more ts q h = second_alike k rule more ts p.0 p.1 q (f p.0 p.1) (h p.0 p.1 refl (subst AreTokens (sym q.behind) q.are))
-bind_alike k (Err e) rule f more ts (deep before t r is some fault g) h = deep before t r is some fault (λ other none a. ap (λ z. and_then z (more 0)) (g other none a))
-bind_alike k (Err e) rule f more ts (unexpected before t r is some fault g) h = unexpected before t r is some fault (λ m other a. ap (λ z. and_then z (more m)) (g m other a))
+bind_alike k (Err e) rule f more ts (deep before t r is some fault g) h = deep before t r is some fault (λ other none a. ap (λ z. read_then z (more 0)) (g other none a))
+bind_alike k (Err e) rule f more ts (unexpected before t r is some fault g) h = unexpected before t r is some fault (λ m other a. ap (λ z. read_then z (more m)) (g m other a))
 
 -- ---- rules that agree
 
@@ -204,7 +204,7 @@ token_alike x (t ∷ []) other a = absurd (other a)
 token_alike x (t ∷ u ∷ r) other a = record { before = t ∷ []; token = u; rest = r; behind = refl; split = refl; some = tt; are = a.1; alike = λ m other b. refl }
 
 pub refuse_alike : {A : Type 0} (ts : Tokens) → AreTokens ts → Alike {A = A} false (refuse ts) (λ m. refuse) ts
-unfolding refusal kind place
+unfolding refused_at kind place
 refuse_alike [] a = absurd a
 refuse_alike (t ∷ r) a = unexpected [] t r refl tt refl (λ m other b. refl)
 
@@ -320,7 +320,7 @@ name_by_alike : (k : Kind) (ts : Tokens) → kind ts ≡ k → AreTokens ts → 
 name_by_alike (kinds.Name n) ts is a = loosely (Ok (n, next ts)) (λ m us. Ok (n, next us)) ts (kind_alike n (kinds.Name n) ts is (λ l. l) a)
 name_by_alike _ ts is a = refuse_alike ts a
 
-pub name_alike : (ts : Tokens) → AreTokens ts → Alike false (name ts) (λ m. name) ts
-unfolding name kind
+pub name_alike : (ts : Tokens) → AreTokens ts → Alike false (name_rule ts) (λ m. name_rule) ts
+unfolding name_rule kind
 name_alike [] a = absurd a
-name_alike (t ∷ r) a = first_alike (λ m. name) (λ m. name_by t.kind) t r (λ m other _. refl) false (name (t ∷ r)) (name_by_alike t.kind (t ∷ r) refl a)
+name_alike (t ∷ r) a = first_alike (λ m. name_rule) (λ m. name_by t.kind) t r (λ m other _. refl) false (name_rule (t ∷ r)) (name_by_alike t.kind (t ∷ r) refl a)

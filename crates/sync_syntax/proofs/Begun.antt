@@ -1,6 +1,6 @@
 -- What stands before a fault begins something that the rule reads: some tokens more make it whole.
 use Rattle.std.proofs.Common.{◌≡◌, ℕ, Bool, true, false, cond, List, [], ◌∷◌, ◌++◌, Ok, Err, refl, sym, subst, ap, ◌∙◌, append_assoc}
-use Rattle.sync_tokens.specs.Places.{start}
+use Rattle.sync_tokens.specs.Places.{first_place}
 use Rattle.sync_tokens.specs.Spellable.{IsIdentifier, IsSpellable, IsLast, AreTokens}
 use Rattle.sync_tokens.specs.Words.{reserved}
 use Rattle.sync_tokens.specs.declared.place.SyntaxWhy.{SyntaxWhy}
@@ -11,7 +11,7 @@ use Rattle.sync_tokens.specs.declared.token.Sign.{Sign}
 use Rattle.sync_tokens.specs.declared.token.Token.{Token}
 use Rattle.sync_tokens.specs.declared.token.Word.{Word}
 use Rattle.sync_syntax.specs.declared.fault.ParseFault.{ParseFault}
-use Rattle.sync_syntax.specs.Reading.{Tokens, Outcome, Rule, and_then, kind, next, sees, sees_word, after, after_word, expect, expect_word, name_by, name, fault, refuse, refusal, too_deep}
+use Rattle.sync_syntax.specs.Reading.{Tokens, Outcome, Rule, read_then, kind, next, sees, sees_word, after, after_word, expect, expect_word, name_by, name_rule, fault_here, refuse, refused_at, too_deep}
 use Rattle.sync_syntax.specs.Grammar.{Takes}
 use Rattle.sync_syntax.proofs.Holds.{sees-takes, sees_word-takes}
 
@@ -51,7 +51,7 @@ pub record Halts (S : Front → Type 0) (ts : Tokens) (e : ParseFault) : Type 0 
   pub rest : Tokens
   pub split : ts ≡ front (token ∷ rest)
   pub why : SyntaxWhy
-  pub at : e ≡ fault why (token ∷ rest)
+  pub at : e ≡ fault_here why (token ∷ rest)
   pub more : Front
   pub good : (w : Tokens) → AreTokens w → AreTokens (more w)
   pub is : S (λ w. front (more w))
@@ -91,7 +91,7 @@ join_grows P S ts us d before law split (Err e) h = record {
 
 pub then_grows : {A B : Type 0} (P : A → Tokens → Front → Type 0) (S : Front → Type 0) (P2 : B → Tokens → Front → Type 0) (S2 : Front → Type 0) (r : Outcome A) (f : A → Rule B) (ts : Tokens) → Grows P S r ts
     → ((x : A) (us : Tokens) (d : Front) → AreTokens us → P x us d → Grows (λ y vs c. P2 y vs (λ w. d (c w))) (λ c. S2 (λ w. d (c w))) (f x us) us)
-    → ((d : Front) → S d → Filled S2 d) → Grows P2 S2 (and_then r f) ts
+    → ((d : Front) → S d → Filled S2 d) → Grows P2 S2 (read_then r f) ts
 then_grows P S P2 S2 (Ok p) f ts h k fill = join_grows P2 S2 ts p.1 h.front h.before h.law h.split (f p.0 p.1) (k p.0 p.1 h.front h.are h.is)
 then_grows P S P2 S2 (Err e) f ts h k fill =
     let c : Filled S2 (λ w. h.front (h.more w)) = fill (λ w. h.front (h.more w)) h.is in
@@ -130,7 +130,7 @@ map_grows P Q S T (Err e) ts h f g = record {
 -- ---- single tokens
 
 abbrev pub madeof : Kind → Token
-madeof k = record { place = start; kind = k }
+madeof k = record { place = first_place; kind = k }
 
 pub good_token : (k : Kind) → IsSpellable k → (w : Tokens) → AreTokens w → AreTokens (madeof k ∷ w)
 good_token k s [] a = absurd a
@@ -162,7 +162,7 @@ token_grows P S x (t ∷ []) other a h = absurd (other a)
 token_grows P S x (t ∷ u ∷ r) other a h = record { front = λ w. t ∷ w; before = t ∷ []; law = λ w. refl; split = refl; are = a.1; is = h t refl }
 
 pub refuse_grows : {A : Type 0} (P : A → Tokens → Front → Type 0) (S : Front → Type 0) (ts : Tokens) → AreTokens ts → Filled S (λ w. w) → Grows P S (refuse ts) ts
-unfolding refusal
+unfolding refused_at
 refuse_grows P S [] a c = absurd a
 refuse_grows P S (t ∷ r) a c = record {
   front = λ w. w;
@@ -277,6 +277,6 @@ name_by_grows (kinds.Name n) ts is a =
     token_grows (λ _ _ d. Spells IsName Always d) (Spells IsName Always) n ts (λ l. subst IsLast is l) a (λ t e. name_token t n (e ∙ is))
 name_by_grows _ ts is a = refuse_grows {A = List ℕ} (λ _ _ d. Spells IsName Always d) (Spells IsName Always) ts a name_filled
 
-pub name_grows : (ts : Tokens) → AreTokens ts → Grows (λ _ _ d. Spells IsName Always d) (Spells IsName Always) (name ts) ts
-unfolding name
+pub name_grows : (ts : Tokens) → AreTokens ts → Grows (λ _ _ d. Spells IsName Always d) (Spells IsName Always) (name_rule ts) ts
+unfolding name_rule
 name_grows ts a = name_by_grows (kind ts) ts refl a

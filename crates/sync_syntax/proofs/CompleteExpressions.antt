@@ -8,7 +8,7 @@ use Rattle.sync_syntax.specs.declared.tree.Operator.{Operator}
 use Rattle.sync_syntax.specs.declared.tree.Expr.{Expr}
 use Rattle.sync_syntax.specs.declared.tree.Suffix.{Suffix}
 use Rattle.sync_syntax.specs.Depth.{expr_depth, chain_depth, tails_depth, unary_depth, suffixes_depth, suffix_depth, listed_depth, exprs_depth, fields_depth, members_depth, member_depth, primary_depth}
-use Rattle.sync_syntax.specs.Expressions.{begins_suffix, tails_from, tails, list, member, members, primary, suffix, suffixes_from, all_suffixes, unary_in, chain_in, nested}
+use Rattle.sync_syntax.specs.Expressions.{begins_suffix, tails_from, tails, list_rule, member_rule, members_rule, primary, suffix_rule, suffixes_from, all_suffixes, unary_in, chain_in, nested}
 use Rattle.sync_syntax.specs.Grammar as g
 use Rattle.sync_syntax.specs.Grammar.{Takes, IsExpr, IsChain, AreTails, IsUnary, AreSuffixes, IsSuffix, AreListed, AreExprs, AreFields, AreMembers, IsMember, IsPrimary}
 use Rattle.sync_syntax.specs.Reading.{Tokens, Rule, kind, same_sign, is_sign, sees, turns, separated, separated_from}
@@ -111,13 +111,13 @@ mutual
       s.suffixes_more (nested room) count found x (suffix_read x room (omega arith) a)
       (suffixes_read t room (omega arith) p.are e count (omega (arith, p.shorter)) (found ++ y ∷ []) ∙ ap (λ z. Ok (z, vs)) (append_assoc found (y ∷ []) ys))
 
-  suffix_read : {ts us : Tokens} {x : Suffix} (d : IsSuffix ts x us) (room : ℕ) → suffix_depth d ≤ room → AreTokens ts → suffix (nested room) ts ≡ Ok (x, us)
+  suffix_read : {ts us : Tokens} {x : Suffix} (d : IsSuffix ts x us) (room : ℕ) → suffix_depth d ≤ room → AreTokens ts → suffix_rule (nested room) ts ≡ Ok (x, us)
   suffix_read (g.member_suffix k n) room h a = s.member_suffix_step (nested room) k n
   suffix_read (g.index_suffix k x l) room h a = s.index_suffix_step (nested room) k (expr_read x room h (sign_past k a).are (closes signs.BracketClose l refl)) l
   suffix_read (g.call_suffix k t) room h a = s.call_suffix_step (nested room) k (listed_read t room h (sign_past k a).are refl refl paren_no_comma)
 
   listed_read : {close : Sign} {ts us : Tokens} {xs : List Expr} (d : AreListed close ts xs us) (room : ℕ) → listed_depth d ≤ room → AreTokens ts
-      → sign_closes close ≡ true → sign_begins close ≡ false → is_sign signs.Comma (kinds.Sign close) ≡ false → list (nested room) close ts ≡ Ok (xs, us)
+      → sign_closes close ≡ true → sign_begins close ≡ false → is_sign signs.Comma (kinds.Sign close) ≡ false → list_rule (nested room) close ts ≡ Ok (xs, us)
   listed_read (g.none_listed {close = close} k) room h a c b no_comma = s.list_none (nested room) close k
   listed_read (g.some_listed {close = close} {ts = ts} {us = us} {found = xs} t k) room h a c b no_comma =
       s.list_some (nested room) close ts (exprs_unseen close t b)
@@ -138,11 +138,11 @@ mutual
       s.separated_more (nested room false) count found (expr_read x room (omega arith) a (closes signs.Comma k refl)) k
       (exprs_read t room (omega arith) q.are e no_comma count (omega (arith, p.shorter, q.shorter)) (found ++ y ∷ []) ∙ ap (λ z. Ok (z, ws)) (append_assoc found (y ∷ []) ys))
 
-  fields_read : {ts us : Tokens} {xs : List (List ℕ × Expr)} (d : AreFields ts xs us) (room : ℕ) → fields_depth d ≤ room → AreTokens ts → members (nested room) ts ≡ Ok (xs, us)
+  fields_read : {ts us : Tokens} {xs : List (List ℕ × Expr)} (d : AreFields ts xs us) (room : ℕ) → fields_depth d ≤ room → AreTokens ts → members_rule (nested room) ts ≡ Ok (xs, us)
   fields_read (g.no_fields k) room h a = s.members_none (nested room) k
   fields_read (g.some_fields {ts = ts} {us = us} {found = xs} t k) room h a =
       s.members_some (nested room) ts (members_unseen t)
-      (all_separated (member (nested room)) ts us xs (members_read t room h a (closes signs.BraceClose k refl) (close_no_comma signs.BraceClose k brace_no_comma) (length ts) (omega arith) [])) k
+      (all_separated (member_rule (nested room)) ts us xs (members_read t room h a (closes signs.BraceClose k refl) (close_no_comma signs.BraceClose k brace_no_comma) (length ts) (omega arith) [])) k
 
   members_unseen : {ts us : Tokens} {xs : List (List ℕ × Expr)} → AreMembers ts xs us → sees signs.BraceClose ts ≡ false
   members_unseen (g.one_member m) = member_unseen m
@@ -153,17 +153,17 @@ mutual
   member_unseen (g.member (g.text_key n) k x) = unseen signs.BraceClose (kinds.Text _) n refl
 
   members_read : {ts us : Tokens} {xs : List (List ℕ × Expr)} (d : AreMembers ts xs us) (room : ℕ) → members_depth d ≤ room → AreTokens ts → closing (kind us) ≡ true → sees signs.Comma us ≡ false
-      → (count : ℕ) → length ts ≤ count → (found : List (List ℕ × Expr)) → separated_from (member (nested room)) count found ts ≡ Ok (found ++ xs, us)
+      → (count : ℕ) → length ts ≤ count → (found : List (List ℕ × Expr)) → separated_from (member_rule (nested room)) count found ts ≡ Ok (found ++ xs, us)
   members_read (g.one_member {ts = ts} x) room h a e no_comma zero l found = some_tokens ts a l
-  members_read (g.one_member x) room h a e no_comma (suc count) l found = s.separated_last (member (nested room)) count found (member_read x room h a e) no_comma
+  members_read (g.one_member x) room h a e no_comma (suc count) l found = s.separated_last (member_rule (nested room)) count found (member_read x room h a e) no_comma
   members_read (g.more_members {ts = ts} x k t) room h a e no_comma zero l found = some_tokens ts a l
   members_read (g.more_members {ws = ws} {m = y} {found = ys} x k t) room h a e no_comma (suc count) l found =
       let p = member_past x a in
       let q = sign_past k p.are in
-      s.separated_more (member (nested room)) count found (member_read x room (omega arith) a (closes signs.Comma k refl)) k
+      s.separated_more (member_rule (nested room)) count found (member_read x room (omega arith) a (closes signs.Comma k refl)) k
       (members_read t room (omega arith) q.are e no_comma count (omega (arith, p.shorter, q.shorter)) (found ++ y ∷ []) ∙ ap (λ z. Ok (z, ws)) (append_assoc found (y ∷ []) ys))
 
-  member_read : {ts us : Tokens} {x : List ℕ × Expr} (d : IsMember ts x us) (room : ℕ) → member_depth d ≤ room → AreTokens ts → closing (kind us) ≡ true → member (nested room) ts ≡ Ok (x, us)
+  member_read : {ts us : Tokens} {x : List ℕ × Expr} (d : IsMember ts x us) (room : ℕ) → member_depth d ≤ room → AreTokens ts → closing (kind us) ≡ true → member_rule (nested room) ts ≡ Ok (x, us)
   member_read (g.member i k x) room h a e =
       let p = key_past i a in
       let q = sign_past k p.are in

@@ -21,7 +21,7 @@ use Rattle.sync_syntax.specs.Grammar as g
 use Rattle.sync_syntax.specs.Grammar.{Takes, Ends, IsGiven, AreDeclared, IsSimple, IsExprOrNone, IsLast, IsStart, IsStatement, IsOtherwise, AreStatements, IsOwnName, IsSecond, IsHead, IsTail, IsProgram}
 use Rattle.sync_syntax.specs.Laws.{max_depth, ProgramsAreRead, GrammarIsUnambiguous}
 use Rattle.sync_syntax.specs.Reading.{Tokens, Outcome, Rule, kind, next, place, same_sign, is_sign, sees, sees_word, is_word, turns, separated_from}
-use Rattle.sync_syntax.specs.Statements.{named, given, declared, declaration, simple, expr_unless, simple_unless, block_from, block, statement, block_in, otherwise_in, repeat_in, for_in, max_len, body_room, end, own_name, second_parameter, head, body, program, only, parsed, Gives}
+use Rattle.sync_syntax.specs.Statements.{named_rule, given, declared_rule, declaration, simple_rule, expr_unless, simple_unless, block_from, block_rule, statement, block_in, else_rule_in, repeat_in, for_in, max_len, body_room, end, own_name, second_parameter, head, function_body, program, whole_program, parsed, GivesParsed}
 use Rattle.sync_syntax.proofs.Fronts.{takes_sees, closing, closing_unseen, closing_writes_none, expr_begins, expr_second, simple_begins, begins_unseen, statement_unseen, unseen, unseen_word}
 use Rattle.sync_syntax.proofs.Past.{sign_past, word_past, declares_past, writing_past, expr_past, named_past, given_on, expr_or_none_past, last_past, start_past, statement_past, head_past}
 use Rattle.sync_syntax.proofs.Steps.{some_tokens, after_taken, after_none, expect_read, expect_word_read, name_read, separated_last, separated_more}
@@ -55,16 +55,16 @@ given_read (g.not_given {ts = ts}) room h a e = s.given_none room ts (closing_un
 given_read (g.given k x) room h a e = s.given_some room k (expr_read x room h (sign_past k a).are e)
 
 declared_read : {ts us : Tokens} {xs : List (Named × Option Expr)} (d : AreDeclared ts xs us) (room : ℕ) → declared_depth d ≤ room → AreTokens ts → closing (kind us) ≡ true → sees signs.Comma us ≡ false
-    → (count : ℕ) → length ts ≤ count → (found : List (Named × Option Expr)) → separated_from (declared room) count found ts ≡ Ok (found ++ xs, us)
+    → (count : ℕ) → length ts ≤ count → (found : List (Named × Option Expr)) → separated_from (declared_rule room) count found ts ≡ Ok (found ++ xs, us)
 declared_read (g.one_declared {ts = ts} n x) room h a e no_comma zero l found = some_tokens ts a l
 declared_read (g.one_declared n x) room h a e no_comma (suc count) l found =
-    separated_last (declared room) count found (s.declared_step room n (given_read x room h (named_past n a).are e)) no_comma
+    separated_last (declared_rule room) count found (s.declared_step room n (given_read x room h (named_past n a).are e)) no_comma
 declared_read (g.more_declared {ts = ts} n x k t) room h a e no_comma zero l found = some_tokens ts a l
 declared_read (g.more_declared {xs = vs} {n = m} {x = y} {others = ys} n x k t) room h a e no_comma (suc count) l found =
     let p = named_past n a in
     let q = given_on x p.are in
     let r = sign_past k q.are in
-    separated_more (declared room) count found (s.declared_step room n (given_read x room (omega arith) p.are (closes signs.Comma k refl))) k
+    separated_more (declared_rule room) count found (s.declared_step room n (given_read x room (omega arith) p.are (closes signs.Comma k refl))) k
     (declared_read t room (omega arith) r.are e no_comma count (omega (arith, p.shorter, q.no_longer, r.shorter)) (found ++ (m, y) ∷ [])
     ∙ ap (λ z. Ok (z, vs)) (append_assoc found ((m, y) ∷ []) ys))
 
@@ -87,7 +87,7 @@ given_no_of (g.given k x) e = no_of _ k refl
 record Declared (room : ℕ) (p : Place) (how : Declares) (names : List (Named × Option Expr)) (ts us : Tokens) : Type 0 where
   first : Named
   middle : Tokens
-  names_first : named ts ≡ Ok (first, middle)
+  names_first : named_rule ts ≡ Ok (first, middle)
   reads : declaration room p how first middle ≡ Ok (record { place = p; declares = how; names = names }, us)
   no_each : sees_word words.Of middle ≡ false
 
@@ -110,13 +110,13 @@ all_declared (g.more_declared {us = us} {vs = vs} {ws = ws} {xs = xs} {n = m} {x
       names_first = s.named_read n;
       reads =
           s.declaration_more room p how m us y ys (given_read x room (omega arith) q.are (closes signs.Comma k refl)) k
-          (all_separated (declared room) ws xs ys (declared_read t room (omega arith) w.are e no_comma (length ws) (omega arith) []));
+          (all_separated (declared_rule room) ws xs ys (declared_read t room (omega arith) w.are e no_comma (length ws) (omega arith) []));
       no_each = given_no_of x (closes signs.Comma k refl);
     }
 
 -- ---- simple statements and what may be absent
 
-simple_read : {ts us : Tokens} {x : Simple} (d : IsSimple ts x us) (room : ℕ) → simple_depth d ≤ room → AreTokens ts → closing (kind us) ≡ true → simple room ts ≡ Ok (x, us)
+simple_read : {ts us : Tokens} {x : Simple} (d : IsSimple ts x us) (room : ℕ) → simple_depth d ≤ room → AreTokens ts → closing (kind us) ≡ true → simple_rule room ts ≡ Ok (x, us)
 simple_read (g.write {k = k} n take is x) room h a e =
     let p = named_past n a in
     let q = writing_past k _ take is p.are in
@@ -176,7 +176,7 @@ some_depth (g.continue k e) h = omega arith
 some_depth (g.simple b x e) h = omega arith
 
 all_statements : (room : ℕ) (l : Bool) (ts us : Tokens) (xs : List Statement) → block_from room (statement room) l (length ts) [] ts ≡ Ok (xs, us) → block_in room l ts ≡ Ok (xs, us)
-unfolding block turns
+unfolding block_rule turns
 all_statements room l ts us xs h = h
 
 mutual
@@ -196,7 +196,7 @@ mutual
       let u = sign_past m r.are in
       let v = statement_past t u.are in
       s.choose_step room l w k (expr_read x room (omega arith) q.are (closes signs.ParenClose m refl)) m (statement_read t room (omega arith) u.are) (otherwise_read o room (omega arith) v.are)
-  statement_read (g.repeat {l = l} {ts = ts} {ws = ws} {xs = xs} {ys = ys} {begins = b} {x = cond_x} {step = last_x} w k st x t body) (suc room) h a =
+  statement_read (g.repeat {l = l} {ts = ts} {ws = ws} {xs = xs} {ys = ys} {begins = b} {x = cond_x} {step = last_x} w k st x t function_body) (suc room) h a =
       let p = word_past w a in
       let q = sign_past k p.are in
       let r = start_past st q.are in
@@ -206,8 +206,8 @@ mutual
       let d : Before (simple_unless room signs.ParenClose) signs.ParenClose last_x xs ys = last_read t room (omega arith) u.are in
       s.for_begins room l w
       (start_read st room (place ts) (omega arith) q.are w k
-      (λ middle m. s.repeat_step room (place ts) b {vs = c.middle} {xs = d.middle} m c.reads c.takes d.reads d.takes (statement_read body room (omega arith) v.are)))
-  statement_read (g.each {l = l} {ts = ts} {k = q} {how = how} w o take is n f x c body) (suc room) h a =
+      (λ middle m. s.repeat_step room (place ts) b {vs = c.middle} {xs = d.middle} m c.reads c.takes d.reads d.takes (statement_read function_body room (omega arith) v.are)))
+  statement_read (g.each {l = l} {ts = ts} {k = q} {how = how} w o take is n f x c function_body) (suc room) h a =
       let p = word_past w a in
       let r = sign_past o p.are in
       let t = declares_past q how take is r.are in
@@ -216,7 +216,7 @@ mutual
       let y = expr_past x v.are in
       let z = sign_past c y.are in
       s.for_begins room l w
-      (s.each_step room (place ts) w o take is n f (expr_read x room (omega arith) v.are (closes signs.ParenClose c refl)) c (statement_read body room (omega arith) z.are))
+      (s.each_step room (place ts) w o take is n f (expr_read x room (omega arith) v.are (closes signs.ParenClose c refl)) c (statement_read function_body room (omega arith) z.are))
   statement_read (g.return_none {l = l} w e) (suc room) h a = s.return_step room l w (s.returned_none room e) e
   statement_read (g.return_some {l = l} {us = us} {vs = vs} {x = y} w x e) (suc room) h a =
       s.return_step room l w
@@ -227,7 +227,7 @@ mutual
   statement_read (g.simple {l = l} {ts = ts} {us = us} b x e) (suc room) h a =
       s.simple_step room l ts us (simple_begins x) b (simple_read x room (omega arith) a (ends_closing e)) e
 
-  otherwise_read : {l : Bool} {ts us : Tokens} {x : Option Statement} (d : IsOtherwise l ts x us) (room : ℕ) → otherwise_depth d ≤ room → AreTokens ts → otherwise_in room l ts ≡ Ok (x, us)
+  otherwise_read : {l : Bool} {ts us : Tokens} {x : Option Statement} (d : IsOtherwise l ts x us) (room : ℕ) → otherwise_depth d ≤ room → AreTokens ts → else_rule_in room l ts ≡ Ok (x, us)
   otherwise_read (g.no_else {l = l} {ts = ts} none) room h a = s.otherwise_none room l ts none
   otherwise_read (g.other {l = l} w t) room h a = s.otherwise_some room l w (statement_read t room h (word_past w a).are)
 
@@ -273,13 +273,13 @@ unfolding sees
 end_no_semicolon ts is = ap (is_sign signs.Semicolon) is
 
 body_read : {us vs ws xs : Tokens} {found : List Statement} → Takes (kinds.Sign signs.BraceOpen) us vs → block_in body_room false vs ≡ Ok (found, ws) → IsTail ws xs → kind xs ≡ kinds.End
-    → body us ≡ Ok (found, xs)
-unfolding body
+    → function_body us ≡ Ok (found, xs)
+unfolding function_body
 body_read k r (g.no_semicolon {ts = ws}) is =
     let none = end_no_semicolon ws is in rw (expect_read signs.BraceOpen k, r, after_none signs.Semicolon none, end_read ws is) refl
 body_read k r (g.semicolon {us = xs} c) is = rw (expect_read signs.BraceOpen k, r, after_taken signs.Semicolon c, end_read xs is) refl
 
-pub program_read : {ts : Tokens} {p : Program} (d : IsProgram ts p) → depth d ≤ max_depth → AreTokens ts → only (program ts) ≡ Ok p
+pub program_read : {ts : Tokens} {p : Program} (d : IsProgram ts p) → depth d ≤ max_depth → AreTokens ts → whole_program (program ts) ≡ Ok p
 unfolding program
 program_read (g.program {us = us} {vs = vs} {ws = ws} h k t b is) low a =
     let p = head_past h a in
@@ -336,7 +336,7 @@ one_program ts p q a d e =
 pub grammar_is_unambiguous : TextsHaveTokens → GrammarIsUnambiguous
 grammar_is_unambiguous tokens text u p q d e = one_program (tokens_of text) p q (tokens text u) d e
 
-pub given_complete : (text : List ℕ) (ts us : Tokens) (r : Result Program ParseFault) → AreTokens ts → ts ≡ tokens_of text → us ≡ ts → Gives (only (program us)) r
-    → (p : Program) (d : IsProgram (tokens_of text) p) → length text ≤ max_len → depth d ≤ max_depth → Gives (Ok p) r
+pub given_complete : (text : List ℕ) (ts us : Tokens) (r : Result Program ParseFault) → AreTokens ts → ts ≡ tokens_of text → us ≡ ts → GivesParsed (whole_program (program us)) r
+    → (p : Program) (d : IsProgram (tokens_of text) p) → length text ≤ max_len → depth d ≤ max_depth → GivesParsed (Ok p) r
 given_complete text ts us r a is same given p d short low =
-    subst (λ z. Gives z r) (ap (λ z. only (program z)) (same ∙ is) ∙ program_read d low (subst AreTokens is a)) given
+    subst (λ z. GivesParsed z r) (ap (λ z. whole_program (program z)) (same ∙ is) ∙ program_read d low (subst AreTokens is a)) given

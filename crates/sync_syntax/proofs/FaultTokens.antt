@@ -3,7 +3,7 @@
 use Rattle.std.proofs.Common.{◌≡◌, inl, inr, ◌≢◌, ℕ, suc, ◌+◌, ◌<◌, ◌≤◌, nat_lt, Bool, true, false, cond, List, [], ◌∷◌, ◌++◌, length, Ok, Err, Result, IfErr, refl, sym, subst, ap, ◌∙◌, append_assoc, le-ltb, ltb-true, ltb-false, arith}
 use Rattle.std.specs.Str.{IsUtf8, chars}
 use Rattle.std.proofs.lemmas.Str.{encodes-chars, length-le-encodes}
-use Rattle.sync_tokens.specs.Places.{start, IsBefore}
+use Rattle.sync_tokens.specs.Places.{first_place, IsBefore}
 use Rattle.sync_tokens.specs.Rising.{Rise, TokensRise}
 use Rattle.sync_tokens.specs.declared.place.Place.{Place}
 use Rattle.sync_tokens.specs.Scan.{tokens_of}
@@ -21,8 +21,8 @@ use Rattle.sync_syntax.specs.Faults.{NoneBegins, NoneWithin, is_written, SomeBeg
 use Rattle.sync_syntax.specs.Grammar as g
 use Rattle.sync_syntax.specs.Grammar.{Takes, IsTail, IsProgram}
 use Rattle.sync_syntax.specs.Laws.{max_depth}
-use Rattle.sync_syntax.specs.Reading.{Tokens, Outcome, Rule, and_then, ◌>>=◌, pure, kind, place, sees, after, expect, refusal, too_deep}
-use Rattle.sync_syntax.specs.Statements.{block_in, body_room, end, head, body, program, only, max_len, parsed, Gives}
+use Rattle.sync_syntax.specs.Reading.{Tokens, Outcome, Rule, read_then, ◌>>=◌, pure_rule, kind, place, sees, after, expect, refused_at, too_deep}
+use Rattle.sync_syntax.specs.Statements.{block_in, body_room, end, head, function_body, program, whole_program, max_len, parsed, GivesParsed}
 use Rattle.sync_syntax.proofs.Alike.{Alike, Stops, deep, unexpected}
 use Rattle.sync_syntax.proofs.AlikeStatements.{body_in, program_in, program_alike}
 use Rattle.sync_syntax.proofs.Begun.{Found, Spells, Halts, Grows}
@@ -40,21 +40,21 @@ cond_same true r us = refl
 cond_same false r us = refl
 
 abbrev ended : List Statement → Rule (List Statement)
-ended found = end >>= λ _. pure found
+ended found = end >>= λ _. pure_rule found
 
-body_is : (ts : Tokens) → body ts ≡ body_in body_room ts
-unfolding body
+body_is : (ts : Tokens) → function_body ts ≡ body_in body_room ts
+unfolding function_body
 body_is ts =
-    same_then (expect signs.BraceOpen ts) (λ _ us. and_then (block_in body_room false us) (λ found vs. ended found (after signs.Semicolon vs)))
-    (λ _ us. and_then (block_in body_room false us) (λ found vs. cond (sees signs.Semicolon vs) (ended found) (ended found) (after signs.Semicolon vs)))
+    same_then (expect signs.BraceOpen ts) (λ _ us. read_then (block_in body_room false us) (λ found vs. ended found (after signs.Semicolon vs)))
+    (λ _ us. read_then (block_in body_room false us) (λ found vs. cond (sees signs.Semicolon vs) (ended found) (ended found) (after signs.Semicolon vs)))
     (λ _ us _. same_then (block_in body_room false us) (λ found vs. ended found (after signs.Semicolon vs)) (λ found vs. cond (sees signs.Semicolon vs) (ended found) (ended found) (after signs.Semicolon vs))
     (λ found vs _. cond_same (sees signs.Semicolon vs) (ended found) (after signs.Semicolon vs)))
 
 program_is : (ts : Tokens) → program ts ≡ program_in body_room ts
 unfolding program
 program_is ts =
-    same_then (head ts) (λ h us. and_then (body us) (λ found. pure (made h (place us) found))) (λ h us. and_then (body_in body_room us) (λ found. pure (made h (place us) found)))
-    (λ h us _. ap (λ q. and_then q (λ found. pure (made h (place us) found))) (body_is us))
+    same_then (head ts) (λ h us. read_then (function_body us) (λ found. pure_rule (made h (place us) found))) (λ h us. read_then (body_in body_room us) (λ found. pure_rule (made h (place us) found)))
+    (λ h us _. ap (λ q. read_then q (λ found. pure_rule (made h (place us) found))) (body_is us))
 
 body_in_read : (room : ℕ) {us vs ws xs : Tokens} {found : List Statement} → Takes (kinds.Sign signs.BraceOpen) us vs → block_in room false vs ≡ Ok (found, ws) → IsTail ws xs → kind xs ≡ kinds.End
     → body_in room us ≡ Ok (found, xs)
@@ -62,7 +62,7 @@ body_in_read room k r (g.no_semicolon {ts = ws}) is =
     let none = end_no_semicolon ws is in rw (expect_read signs.BraceOpen k, r, none, after_none signs.Semicolon none, end_read ws is) refl
 body_in_read room k r (g.semicolon {us = xs} c) is = rw (expect_read signs.BraceOpen k, r, takes_sees signs.Semicolon c, after_taken signs.Semicolon c, end_read xs is) refl
 
-program_in_read : {ts : Tokens} {p : Program} (d : IsProgram ts p) (room : ℕ) → depth d ≤ suc room → AreTokens ts → only (program_in room ts) ≡ Ok p
+program_in_read : {ts : Tokens} {p : Program} (d : IsProgram ts p) (room : ℕ) → depth d ≤ suc room → AreTokens ts → whole_program (program_in room ts) ≡ Ok p
 program_in_read (g.program {us = us} {vs = vs} {ws = ws} h k t b is) room low a =
     let p = head_past h a in
     let q = sign_past k p.are in
@@ -76,8 +76,8 @@ none_begins before t e h rest p a d =
     let same : (before ++ t ∷ []) ++ rest ≡ before ++ t ∷ rest = append_assoc before (t ∷ []) rest in
     let b : AreTokens (before ++ t ∷ rest) = subst AreTokens same a in
     let c : IsProgram (before ++ t ∷ rest) p = subst (λ us. IsProgram us p) same d in
-    let found : only (program_in (body_room + depth c) (before ++ t ∷ rest)) ≡ Ok p = program_in_read c (body_room + depth c) (omega arith) b in
-    let stops : only (program_in (body_room + depth c) (before ++ t ∷ rest)) ≡ Err e = ap only (h (depth c) rest b) in
+    let found : whole_program (program_in (body_room + depth c) (before ++ t ∷ rest)) ≡ Ok p = program_in_read c (body_room + depth c) (omega arith) b in
+    let stops : whole_program (program_in (body_room + depth c) (before ++ t ∷ rest)) ≡ Err e = ap whole_program (h (depth c) rest b) in
     absurd cc
 
 at_most : (n : ℕ) → (b : Bool) → nat_lt max_depth n ≡ b → (b ≡ false → ⊥) → max_depth < n
@@ -87,9 +87,9 @@ at_most n false is h = absurd (h refl)
 none_within : (before : Tokens) (t : Token) (e : ParseFault)
     → ((other : Tokens) → is_written t.kind (kind other) ≡ false → AreTokens (before ++ t ∷ other) → program_in body_room (before ++ t ∷ other) ≡ Err e) → NoneWithin before t
 none_within before t e h rest p none a d =
-    let stops : only (program_in body_room (before ++ t ∷ rest)) ≡ Err e = ap only (h rest none a) in
+    let stops : whole_program (program_in body_room (before ++ t ∷ rest)) ≡ Err e = ap whole_program (h rest none a) in
     at_most (depth d) (nat_lt max_depth (depth d)) refl
-    (λ low. (let found : only (program_in body_room (before ++ t ∷ rest)) ≡ Ok p = program_in_read d body_room (ltb-false max_depth (depth d) low) a in absurd cc))
+    (λ low. (let found : whole_program (program_in body_room (before ++ t ∷ rest)) ≡ Ok p = program_in_read d body_room (ltb-false max_depth (depth d) low) a in absurd cc))
 
 -- ---- two tokens at one place are one
 
@@ -129,7 +129,7 @@ same_before (v ∷ vs) (w ∷ ws) t u r q e h is =
 
 abbrev placed : ParseFault → Place
 placed (Bad f) = f.place
-placed Memory = start
+placed Memory = first_place
 
 -- ---- what stands before the token at fault begins a program
 
@@ -146,7 +146,7 @@ front_tokens [] t r w a b = b
 front_tokens (v ∷ vs) t r w a b = let p = spelled_first v vs t r a in first_more v (vs ++ w) p.0 (front_tokens vs t r w p.1 b)
 
 abbrev the_end : Tokens
-the_end = record { place = start; kind = kinds.End } ∷ []
+the_end = record { place = first_place; kind = kinds.End } ∷ []
 
 some_begins : (ts : Tokens) (e : ParseFault) (h : Halts (Spells ProgramOf AtEnd) ts e) → AreTokens ts → SomeBegins h.before
 unfolding kind
@@ -171,17 +171,17 @@ at_place ts e before t r split is h a rise =
     subst SomeBegins same (some_begins ts e h a)
 
 stops_at : (ts : Tokens) (e : ParseFault) → AreTokens ts → Rise ts → Halts (Spells ProgramOf AtEnd) ts e → Stops false (λ m. program_in (body_room + m)) ts e → IsFaultOf ts e
-unfolding refusal too_deep kind place
+unfolding refused_at too_deep kind place
 stops_at ts e a rise halts (deep before t r is some fault h) =
     subst (IsFaultOf ts) (sym fault) (f.deep before t r is (at_place ts e before t r is (ap placed fault) halts a rise) (none_within before t e h))
 stops_at ts e a rise halts (unexpected before t r is some fault h) =
     subst (IsFaultOf ts) (sym fault) (f.unexpected before t r is (at_place ts e before t r is (ap placed fault) halts a rise) (none_begins before t e h))
 
-only_fault : (q : Outcome Program) (e : ParseFault) → only q ≡ Err e → q ≡ Err e
+only_fault : (q : Outcome Program) (e : ParseFault) → whole_program q ≡ Err e → q ≡ Err e
 only_fault (Ok p) e h = absurd cc
 only_fault (Err x) e h = let same : x ≡ e = cc in ap Err same
 
-program_fault : (ts : Tokens) (e : ParseFault) → AreTokens ts → Rise ts → only (program ts) ≡ Err e → IsFaultOf ts e
+program_fault : (ts : Tokens) (e : ParseFault) → AreTokens ts → Rise ts → whole_program (program ts) ≡ Err e → IsFaultOf ts e
 program_fault ts e a rise is =
     let err : program ts ≡ Err e = only_fault (program ts) e is in
     let r : program_in body_room ts ≡ Err e = sym (program_is ts) ∙ err in
@@ -202,8 +202,8 @@ faults_are_first tokens rise text u short e is =
     let fits : nat_lt max_len (length text) ≡ false = le-ltb max_len (length text) short in
     program_fault (tokens_of text) e (tokens text u) (short_rises rise text u short) (rw fits at is)
 
-pub given_fault : TokensRise → (text : List ℕ) (ts us : Tokens) (r : Result Program ParseFault) → IsUtf8 text → AreTokens ts → ts ≡ tokens_of text → us ≡ ts → Gives (only (program us)) r
+pub given_fault : TokensRise → (text : List ℕ) (ts us : Tokens) (r : Result Program ParseFault) → IsUtf8 text → AreTokens ts → ts ≡ tokens_of text → us ≡ ts → GivesParsed (whole_program (program us)) r
     → IfErr r (λ e. e ≢ Memory → length text ≤ max_len → IsFaultOf (tokens_of text) e)
 given_fault rise text ts us (Ok p) u a is same given = tt
 given_fault rise text ts us (Err e) u a is same given =
-    λ other short. program_fault (tokens_of text) e (subst AreTokens is a) (short_rises rise text u short) (ap (λ z. only (program z)) (sym is ∙ sym same) ∙ given other)
+    λ other short. program_fault (tokens_of text) e (subst AreTokens is a) (short_rises rise text u short) (ap (λ z. whole_program (program z)) (sym is ∙ sym same) ∙ given other)

@@ -18,7 +18,7 @@ use Rattle.sync_syntax.specs.declared.tree.Simple.{Simple}
 use Rattle.sync_syntax.specs.declared.tree.Suffix.{Suffix}
 use Rattle.sync_syntax.specs.declared.tree.Statement.{Statement}
 use Rattle.sync_syntax.specs.Reading.{Tokens, kind, next, second, same_sign, same_word, is_sign, is_word, sees, sees_word}
-use Rattle.sync_syntax.specs.Operators.{level, operator, only_at, operator_at, prefix, declares_by, writing_by, is_name}
+use Rattle.sync_syntax.specs.Operators.{level, operator, only_at, operator_at, prefix_by, declares_by, writing_by, is_name_kind}
 use Rattle.sync_syntax.specs.Grammar as g
 use Rattle.sync_syntax.specs.Grammar.{Takes, IsExpr, IsChain, AreTails, IsUnary, AreSuffixes, IsSuffix, IsPrimary, IsNamed, IsDeclaration, IsSimple, IsStatement}
 
@@ -70,8 +70,8 @@ by_bool : {P : Type 0} (b : Bool) → (b ≡ true → P) → (b ≡ false → P)
 by_bool true f g = f refl
 by_bool false f g = g refl
 
-prefix_begins : (k : Kind) (o : Prefix) → prefix k ≡ Some o → begins k ≡ true
-unfolding prefix
+prefix_begins : (k : Kind) (o : Prefix) → prefix_by k ≡ Some o → begins k ≡ true
+unfolding prefix_by
 prefix_begins (kinds.Sign signs.Not) o is = refl
 prefix_begins (kinds.Sign signs.Minus) o is = refl
 prefix_begins (kinds.Word words.Typeof) o is = refl
@@ -124,18 +124,18 @@ begins_unseen s ts other is = distinguished begins s (kind ts) other is
 
 -- ---- a primary is no prefix
 
-pub no_prefix : {ts us : Tokens} {x : Expr} → IsPrimary ts x us → prefix (kind ts) ≡ None
-unfolding prefix
-no_prefix (g.integer k) = ap prefix k.is
-no_prefix (g.text k) = ap prefix k.is
-no_prefix (g.name k) = ap prefix k.is
-no_prefix (g.yes k) = ap prefix k.is
-no_prefix (g.no k) = ap prefix k.is
-no_prefix (g.null k) = ap prefix k.is
-no_prefix (g.undefined k) = ap prefix k.is
-no_prefix (g.parentheses k x l) = ap prefix k.is
-no_prefix (g.list k h) = ap prefix k.is
-no_prefix (g.object k h) = ap prefix k.is
+pub no_prefix : {ts us : Tokens} {x : Expr} → IsPrimary ts x us → prefix_by (kind ts) ≡ None
+unfolding prefix_by
+no_prefix (g.integer k) = ap prefix_by k.is
+no_prefix (g.text k) = ap prefix_by k.is
+no_prefix (g.name k) = ap prefix_by k.is
+no_prefix (g.yes k) = ap prefix_by k.is
+no_prefix (g.no k) = ap prefix_by k.is
+no_prefix (g.null k) = ap prefix_by k.is
+no_prefix (g.undefined k) = ap prefix_by k.is
+no_prefix (g.parentheses k x l) = ap prefix_by k.is
+no_prefix (g.list k h) = ap prefix_by k.is
+no_prefix (g.object k h) = ap prefix_by k.is
 
 -- ---- which tokens end an expression
 
@@ -212,8 +212,8 @@ ends_at n take e = subst (EndsChain n) (sym take.is) e
 
 -- ---- behind a name that begins an expression stands nothing that writes
 
-prefix_no_name : (k : Kind) (o : Prefix) → prefix k ≡ Some o → is_name k ≡ false
-unfolding prefix
+prefix_no_name : (k : Kind) (o : Prefix) → prefix_by k ≡ Some o → is_name_kind k ≡ false
+unfolding prefix_by
 prefix_no_name (kinds.Name n) o is = absurd cc
 prefix_no_name _ o is = refl
 
@@ -250,12 +250,12 @@ tails_write_none g.no_tail h = h
 tails_write_none (g.tail {level = n} {k = k} {op = o} take is c found) h = ap writing_by take.is ∙ operator_writes_none (suc n) k o is
 
 abbrev NoName : Kind → Type 0
-NoName k = is_name k ≡ false
+NoName k = is_name_kind k ≡ false
 
-no_name : {P : Type 0} (k : Kind) (ts : Tokens) → kind ts ≡ k → is_name k ≡ false → is_name (kind ts) ≡ true → P
-no_name k ts is other h = absurd (true≢false (sym h ∙ ap is_name is ∙ other))
+no_name : {P : Type 0} (k : Kind) (ts : Tokens) → kind ts ≡ k → is_name_kind k ≡ false → is_name_kind (kind ts) ≡ true → P
+no_name k ts is other h = absurd (true≢false (sym h ∙ ap is_name_kind is ∙ other))
 
-primary_next : {ts us : Tokens} {x : Expr} → IsPrimary ts x us → is_name (kind ts) ≡ true → us ≡ next ts
+primary_next : {ts us : Tokens} {x : Expr} → IsPrimary ts x us → is_name_kind (kind ts) ≡ true → us ≡ next ts
 primary_next (g.name k) h = k.rest
 primary_next (g.integer {ts = ts} {n = n} k) h = no_name (kinds.Integer n) ts k.is refl h
 primary_next (g.text {ts = ts} {n = n} k) h = no_name (kinds.Text n) ts k.is refl h
@@ -267,16 +267,16 @@ primary_next (g.parentheses {ts = ts} k x l) h = no_name (kinds.Sign signs.Paren
 primary_next (g.list {ts = ts} k found) h = no_name (kinds.Sign signs.BracketOpen) ts k.is refl h
 primary_next (g.object {ts = ts} k found) h = no_name (kinds.Sign signs.BraceOpen) ts k.is refl h
 
-unary_second : {ts us : Tokens} {x : Expr} → IsUnary ts x us → is_name (kind ts) ≡ true → writing_by (kind us) ≡ None → writing_by (second ts) ≡ None
+unary_second : {ts us : Tokens} {x : Expr} → IsUnary ts x us → is_name_kind (kind ts) ≡ true → writing_by (kind us) ≡ None → writing_by (second ts) ≡ None
 unfolding second
 unary_second (g.prefixed {ts = ts} {k = k} {op = o} take is u) n h = no_name k ts take.is (prefix_no_name k o is) n
 unary_second (g.postfix p found) n h = ap (λ vs. writing_by (kind vs)) (sym (primary_next p n)) ∙ suffixes_write_none found h
 
-chain_second : {n : ℕ} {ts us : Tokens} {x : Expr} → IsChain n ts x us → is_name (kind ts) ≡ true → writing_by (kind us) ≡ None → writing_by (second ts) ≡ None
+chain_second : {n : ℕ} {ts us : Tokens} {x : Expr} → IsChain n ts x us → is_name_kind (kind ts) ≡ true → writing_by (kind us) ≡ None → writing_by (second ts) ≡ None
 chain_second (g.operand u) n h = unary_second u n h
 chain_second (g.chain c found) n h = chain_second c n (tails_write_none found h)
 
-pub expr_second : {ts us : Tokens} {x : Expr} → IsExpr ts x us → is_name (kind ts) ≡ true → writing_by (kind us) ≡ None → writing_by (second ts) ≡ None
+pub expr_second : {ts us : Tokens} {x : Expr} → IsExpr ts x us → is_name_kind (kind ts) ≡ true → writing_by (kind us) ≡ None → writing_by (second ts) ≡ None
 unfolding writing_by
 expr_second (g.no_choice c) n h = chain_second c n h
 expr_second (g.choice c q a k b) n h = chain_second c n (ap writing_by q.is)

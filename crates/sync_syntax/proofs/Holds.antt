@@ -9,14 +9,14 @@ use Rattle.sync_tokens.specs.declared.token.Word.{Word}
 use Rattle.sync_tokens.specs.contracts.token.Sign as the_signs
 use Rattle.sync_tokens.specs.contracts.token.Word as the_words
 use Rattle.sync_syntax.specs.declared.fault.ParseFault.{ParseFault}
-use Rattle.sync_syntax.specs.Reading.{Tokens, Outcome, Rule, and_then, ◌>>=◌, pure, kind, next, is_sign, is_word, same_sign, same_word, sees, sees_word, after, after_word, eat, expect, expect_word, name_by, name, turns, separated_from, separated, refusal}
+use Rattle.sync_syntax.specs.Reading.{Tokens, Outcome, Rule, read_then, ◌>>=◌, pure_rule, kind, next, is_sign, is_word, same_sign, same_word, sees, sees_word, after, after_word, eat, expect, expect_word, name_by, name_rule, turns, separated_from, separated, refused_at}
 use Rattle.sync_syntax.specs.Grammar.{Takes}
 
 abbrev pub Holds : {A : Type 0} → Outcome A → (A → Tokens → Type 0) → Type 0
 Holds (Ok p) P = P p.0 p.1
 Holds (Err f) P = Unit {0}
 
-pub holds_then : {A B : Type 0} (r : Outcome A) (f : A → Rule B) (P : A → Tokens → Type 0) (Q : B → Tokens → Type 0) → Holds r P → ((a : A) (us : Tokens) → P a us → Holds (f a us) Q) → Holds (and_then r f) Q
+pub holds_then : {A B : Type 0} (r : Outcome A) (f : A → Rule B) (P : A → Tokens → Type 0) (Q : B → Tokens → Type 0) → Holds r P → ((a : A) (us : Tokens) → P a us → Holds (f a us) Q) → Holds (read_then r f) Q
 holds_then (Ok p) f P Q h k = k p.0 p.1 h
 holds_then (Err e) f P Q h k = tt
 
@@ -53,22 +53,22 @@ sees_word-takes w ts h = record { is = is_word-is w (kind ts) h; rest = refl }
 abbrev tested : Bool → Tokens → ParseFault → Outcome (Unit {0})
 tested b us e = cond b (Ok (tt, us)) (Err e)
 
-expect_by : {B : Type 0} (b : Bool) (us : Tokens) (e : ParseFault) (f : Rule B) (Q : B → Tokens → Type 0) → (b ≡ true → Holds (f us) Q) → Holds (and_then (tested b us e) (λ _. f)) Q
+expect_by : {B : Type 0} (b : Bool) (us : Tokens) (e : ParseFault) (f : Rule B) (Q : B → Tokens → Type 0) → (b ≡ true → Holds (f us) Q) → Holds (read_then (tested b us e) (λ _. f)) Q
 expect_by true us e f Q k = k refl
 expect_by false us e f Q k = tt
 
-pub holds_expect : {B : Type 0} (s : Sign) (ts : Tokens) (f : Rule B) (Q : B → Tokens → Type 0) → (Takes (kinds.Sign s) ts (next ts) → Holds (f (next ts)) Q) → Holds (and_then (expect s ts) (λ _. f)) Q
+pub holds_expect : {B : Type 0} (s : Sign) (ts : Tokens) (f : Rule B) (Q : B → Tokens → Type 0) → (Takes (kinds.Sign s) ts (next ts) → Holds (f (next ts)) Q) → Holds (read_then (expect s ts) (λ _. f)) Q
 unfolding expect
-holds_expect s ts f Q k = expect_by (sees s ts) (next ts) (refusal ts) f Q (λ h. k (sees-takes s ts h))
+holds_expect s ts f Q k = expect_by (sees s ts) (next ts) (refused_at ts) f Q (λ h. k (sees-takes s ts h))
 
-pub holds_expect_word : {B : Type 0} (w : Word) (ts : Tokens) (f : Rule B) (Q : B → Tokens → Type 0) → (Takes (kinds.Word w) ts (next ts) → Holds (f (next ts)) Q) → Holds (and_then (expect_word w ts) (λ _. f)) Q
+pub holds_expect_word : {B : Type 0} (w : Word) (ts : Tokens) (f : Rule B) (Q : B → Tokens → Type 0) → (Takes (kinds.Word w) ts (next ts) → Holds (f (next ts)) Q) → Holds (read_then (expect_word w ts) (λ _. f)) Q
 unfolding expect_word
-holds_expect_word w ts f Q k = expect_by (sees_word w ts) (next ts) (refusal ts) f Q (λ h. k (sees_word-takes w ts h))
+holds_expect_word w ts f Q k = expect_by (sees_word w ts) (next ts) (refused_at ts) f Q (λ h. k (sees_word-takes w ts h))
 
 -- the sign alone
 pub expect-holds : (s : Sign) (ts : Tokens) → Holds (expect s ts) (λ _ us. Takes (kinds.Sign s) ts us)
 unfolding expect
-expect-holds s ts = holds_choice (sees s ts) (Ok (tt, next ts)) (Err (refusal ts)) (λ _ us. Takes (kinds.Sign s) ts us) (λ h. sees-takes s ts h) (λ _. tt)
+expect-holds s ts = holds_choice (sees s ts) (Ok (tt, next ts)) (Err (refused_at ts)) (λ _ us. Takes (kinds.Sign s) ts us) (λ h. sees-takes s ts h) (λ _. tt)
 
 eat_by : {B : Type 0} (b : Bool) (ts : Tokens) (f g : Rule B) (Q : B → Tokens → Type 0) → (b ≡ true → Holds (f (next ts)) Q) → (b ≡ false → Holds (g ts) Q) → Holds (cond b f g (cond b (next ts) ts)) Q
 eat_by true ts f g Q first other = first refl
@@ -86,8 +86,8 @@ name_by-holds : (k : Kind) (ts : Tokens) → kind ts ≡ k → Holds (name_by k 
 name_by-holds (kinds.Name n) ts h = record { is = h; rest = refl }
 name_by-holds _ ts h = tt
 
-pub name-holds : (ts : Tokens) → Holds (name ts) (λ n us. Takes (kinds.Name n) ts us)
-unfolding name
+pub name-holds : (ts : Tokens) → Holds (name_rule ts) (λ n us. Takes (kinds.Name n) ts us)
+unfolding name_rule
 name-holds ts = name_by-holds (kind ts) ts refl
 
 module _ {A : Type 0} (item : Rule A) (R : Tokens → A → Tokens → Type 0) (S : Tokens → List A → Tokens → Type 0)
@@ -101,8 +101,8 @@ module _ {A : Type 0} (item : Rule A) (R : Tokens → A → Tokens → Type 0) (
   unfolding separated_from
   separated_from-holds zero found ts = tt
   separated_from-holds (suc n) found ts =
-      holds_then (item ts) (λ x. (eat signs.Comma >>= λ b. cond b (separated_from item n (found ++ x ∷ [])) (pure (found ++ x ∷ [])))) (R ts) (Found ts found) (item-holds ts)
-      (λ x us h. holds_eat signs.Comma us (separated_from item n (found ++ x ∷ [])) (pure (found ++ x ∷ [])) (Found ts found)
+      holds_then (item ts) (λ x. (eat signs.Comma >>= λ b. cond b (separated_from item n (found ++ x ∷ [])) (pure_rule (found ++ x ∷ [])))) (R ts) (Found ts found) (item-holds ts)
+      (λ x us h. holds_eat signs.Comma us (separated_from item n (found ++ x ∷ [])) (pure_rule (found ++ x ∷ [])) (Found ts found)
       (λ k. holds_map (separated_from item n (found ++ x ∷ []) (next us)) (Found (next us) (found ++ x ∷ [])) (Found ts found) (separated_from-holds n (found ++ x ∷ []) (next us))
       (λ all vs f. (x ∷ f.0, f.1 ∙ append_assoc found (x ∷ []) f.0, more ts us vs x f.0 h k f.2)))
       (λ _. (x ∷ [], refl, one ts us x h)))

@@ -10,15 +10,15 @@ use Rattle.sync_syntax.specs.declared.tree.Operator.{Operator}
 use Rattle.sync_syntax.specs.declared.tree.Expr.{Expr}
 use Rattle.sync_syntax.specs.declared.tree.Statement.{Statement}
 use Rattle.sync_syntax.specs.declared.tree.Suffix.{Suffix}
-use Rattle.sync_syntax.specs.Reading.{Tokens, Outcome, Rule, and_then, pure, kind, next, sees, after, turns, separated_from, separated}
+use Rattle.sync_syntax.specs.Reading.{Tokens, Outcome, Rule, read_then, pure_rule, kind, next, sees, after, turns, separated_from, separated}
 use Rattle.sync_syntax.specs.Operators.{operator, operator_at}
-use Rattle.sync_syntax.specs.Expressions.{begins_suffix, suffix, suffixes_from, all_suffixes, tail_by, tails_from, tails}
-use Rattle.sync_syntax.specs.Statements.{block_from, block}
+use Rattle.sync_syntax.specs.Expressions.{begins_suffix, suffix_rule, suffixes_from, all_suffixes, tail_by, tails_from, tails}
+use Rattle.sync_syntax.specs.Statements.{block_from, block_rule}
 use Rattle.sync_syntax.proofs.Alike.{Alike, bind_alike, first_alike, all_alike, loosely, pure_alike, taken_alike, test_alike, eat_alike}
 use Rattle.sync_syntax.proofs.Past.{Past, Behind, GoesPast, operator_past}
 use Rattle.sync_syntax.proofs.Steps.{some_tokens}
 
-pub same_then : {A B : Type 0} (q : Outcome A) (f g : A → Rule B) → ((x : A) (us : Tokens) → q ≡ Ok (x, us) → f x us ≡ g x us) → and_then q f ≡ and_then q g
+pub same_then : {A B : Type 0} (q : Outcome A) (f g : A → Rule B) → ((x : A) (us : Tokens) → q ≡ Ok (x, us) → f x us ≡ g x us) → read_then q f ≡ read_then q g
 same_then (Ok p) f g h = h p.0 p.1 refl
 same_then (Err e) f g h = refl
 
@@ -52,28 +52,28 @@ module _ {A : Type 0} (item : Rule A) (goes : (ts us : Tokens) (x : A) → item 
   separated_enough zero m found ts a h i = some_tokens ts a h
   separated_enough (suc n) zero found ts a h i = some_tokens ts a i
   separated_enough (suc n) (suc m) found ts a h i =
-      same_then (item ts) (λ x us. cond (sees signs.Comma us) (separated_from item n (found ++ x ∷ [])) (pure (found ++ x ∷ [])) (after signs.Comma us))
-      (λ x us. cond (sees signs.Comma us) (separated_from item m (found ++ x ∷ [])) (pure (found ++ x ∷ [])) (after signs.Comma us))
+      same_then (item ts) (λ x us. cond (sees signs.Comma us) (separated_from item n (found ++ x ∷ [])) (pure_rule (found ++ x ∷ [])) (after signs.Comma us))
+      (λ x us. cond (sees signs.Comma us) (separated_from item m (found ++ x ∷ [])) (pure_rule (found ++ x ∷ [])) (after signs.Comma us))
       (λ x us is. (let p : Past ts us = goes ts us x is a in
       let b : Behind us (after signs.Comma us) = after_behind signs.Comma us p.are in
-      same_first (sees signs.Comma us) (separated_from item n (found ++ x ∷ [])) (separated_from item m (found ++ x ∷ [])) (pure (found ++ x ∷ [])) (after signs.Comma us)
+      same_first (sees signs.Comma us) (separated_from item n (found ++ x ∷ [])) (separated_from item m (found ++ x ∷ [])) (pure_rule (found ++ x ∷ [])) (after signs.Comma us)
       (separated_enough n m (found ++ x ∷ []) (after signs.Comma us) b.are (omega (arith, p.shorter, b.no_longer)) (omega (arith, p.shorter, b.no_longer)))))
 
   abbrev rest_separated : List A → Rule (List A)
   rest_separated found us = separated_from item (length us) found us
 
   abbrev one_more : List A → Rule (List A)
-  one_more found us = and_then (item us) (λ x vs. cond (sees signs.Comma vs) (rest_separated (found ++ x ∷ [])) (pure (found ++ x ∷ [])) (after signs.Comma vs))
+  one_more found us = read_then (item us) (λ x vs. cond (sees signs.Comma vs) (rest_separated (found ++ x ∷ [])) (pure_rule (found ++ x ∷ [])) (after signs.Comma vs))
 
   separated_turn : (found : List A) (ts : Tokens) → AreTokens ts → rest_separated found ts ≡ one_more found ts
   unfolding separated_from
   separated_turn found ts a =
       separated_enough (length ts) (suc (length ts)) found ts a (omega arith) (omega arith)
-      ∙ same_then (item ts) (λ x us. cond (sees signs.Comma us) (separated_from item (length ts) (found ++ x ∷ [])) (pure (found ++ x ∷ [])) (after signs.Comma us))
-      (λ x us. cond (sees signs.Comma us) (rest_separated (found ++ x ∷ [])) (pure (found ++ x ∷ [])) (after signs.Comma us))
+      ∙ same_then (item ts) (λ x us. cond (sees signs.Comma us) (separated_from item (length ts) (found ++ x ∷ [])) (pure_rule (found ++ x ∷ [])) (after signs.Comma us))
+      (λ x us. cond (sees signs.Comma us) (rest_separated (found ++ x ∷ [])) (pure_rule (found ++ x ∷ [])) (after signs.Comma us))
       (λ x us is. (let p : Past ts us = goes ts us x is a in
       let b : Behind us (after signs.Comma us) = after_behind signs.Comma us p.are in
-      same_first (sees signs.Comma us) (separated_from item (length ts) (found ++ x ∷ [])) (rest_separated (found ++ x ∷ [])) (pure (found ++ x ∷ [])) (after signs.Comma us)
+      same_first (sees signs.Comma us) (separated_from item (length ts) (found ++ x ∷ [])) (rest_separated (found ++ x ∷ [])) (pure_rule (found ++ x ∷ [])) (after signs.Comma us)
       (separated_enough (length ts) (length (after signs.Comma us)) (found ++ x ∷ []) (after signs.Comma us) b.are (omega (arith, p.shorter, b.no_longer)) (omega arith))))
 
 module _ {A : Type 0} (item : Rule A) (deeper : ℕ → Rule A) (hi : (ts : Tokens) → AreTokens ts → Alike false (item ts) deeper ts)
@@ -84,10 +84,10 @@ module _ {A : Type 0} (item : Rule A) (deeper : ℕ → Rule A) (hi : (ts : Toke
   separated_from_alike (suc count) found ts l a =
       all_alike (λ m. rest_separated (deeper m) (goes' m) found) (λ m. one_more (deeper m) (goes' m) found) (λ m us b. separated_turn (deeper m) (goes' m) found us b) false
       (separated_from item (suc count) found ts) ts a
-      (bind_alike false (item ts) deeper (λ x us. cond (sees signs.Comma us) (separated_from item count (found ++ x ∷ [])) (pure (found ++ x ∷ [])) (after signs.Comma us))
-      (λ m x us. cond (sees signs.Comma us) (rest_separated (deeper m) (goes' m) (found ++ x ∷ [])) (pure (found ++ x ∷ [])) (after signs.Comma us)) ts (hi ts a)
+      (bind_alike false (item ts) deeper (λ x us. cond (sees signs.Comma us) (separated_from item count (found ++ x ∷ [])) (pure_rule (found ++ x ∷ [])) (after signs.Comma us))
+      (λ m x us. cond (sees signs.Comma us) (rest_separated (deeper m) (goes' m) (found ++ x ∷ [])) (pure_rule (found ++ x ∷ [])) (after signs.Comma us)) ts (hi ts a)
       (λ x us is b. (let p : Past ts us = goes ts us x is a in
-      eat_alike signs.Comma (separated_from item count (found ++ x ∷ [])) (pure (found ++ x ∷ [])) (λ m. rest_separated (deeper m) (goes' m) (found ++ x ∷ [])) (λ m. pure (found ++ x ∷ [])) us b
+      eat_alike signs.Comma (separated_from item count (found ++ x ∷ [])) (pure_rule (found ++ x ∷ [])) (λ m. rest_separated (deeper m) (goes' m) (found ++ x ∷ [])) (λ m. pure_rule (found ++ x ∷ [])) us b
       (λ _ c shorter. separated_from_alike count (found ++ x ∷ []) (next us) (omega (arith, p.shorter, shorter)) c) (λ _. pure_alike (found ++ x ∷ []) us b))))
 
   pub separated_alike : (ts : Tokens) → AreTokens ts → Alike false (separated item ts) (λ m. separated (deeper m)) ts
@@ -100,9 +100,9 @@ begins_first : (t : Token) (r other : Tokens) → begins_suffix (t ∷ other) �
 unfolding begins_suffix sees kind
 begins_first t r other = refl
 
-module _ (n : Bool → Rule Expr) (goes : (ts us : Tokens) (x : Suffix) → suffix n ts ≡ Ok (x, us) → GoesPast ts us) where
+module _ (n : Bool → Rule Expr) (goes : (ts us : Tokens) (x : Suffix) → suffix_rule n ts ≡ Ok (x, us) → GoesPast ts us) where
   abbrev found_more : ℕ → List Suffix → Rule (List Suffix)
-  found_more count found us = and_then (suffix n us) (λ x. suffixes_from n count (found ++ x ∷ []))
+  found_more count found us = read_then (suffix_rule n us) (λ x. suffixes_from n count (found ++ x ∷ []))
 
   same_test : (b : Bool) (x y z : Outcome (List Suffix)) → x ≡ y → cond b x z ≡ cond b y z
   same_test true x y z e = e
@@ -114,35 +114,35 @@ module _ (n : Bool → Rule Expr) (goes : (ts us : Tokens) (x : Suffix) → suff
   suffixes_enough (suc c) zero found ts a h i = some_tokens ts a i
   suffixes_enough (suc c) (suc d) found ts a h i =
       same_test (begins_suffix ts) (found_more c found ts) (found_more d found ts) (Ok (found, ts))
-      (same_then (suffix n ts) (λ x. suffixes_from n c (found ++ x ∷ [])) (λ x. suffixes_from n d (found ++ x ∷ []))
+      (same_then (suffix_rule n ts) (λ x. suffixes_from n c (found ++ x ∷ [])) (λ x. suffixes_from n d (found ++ x ∷ []))
       (λ x us is. (let p : Past ts us = goes ts us x is a in suffixes_enough c d (found ++ x ∷ []) us p.are (omega (arith, p.shorter)) (omega (arith, p.shorter)))))
 
   abbrev rest_suffixes : List Suffix → Rule (List Suffix)
   rest_suffixes found us = suffixes_from n (length us) found us
 
   abbrev one_suffix : List Suffix → Rule (List Suffix)
-  one_suffix found us = cond (begins_suffix us) (and_then (suffix n us) (λ x. rest_suffixes (found ++ x ∷ []))) (Ok (found, us))
+  one_suffix found us = cond (begins_suffix us) (read_then (suffix_rule n us) (λ x. rest_suffixes (found ++ x ∷ []))) (Ok (found, us))
 
   suffixes_turn : (found : List Suffix) (ts : Tokens) → AreTokens ts → rest_suffixes found ts ≡ one_suffix found ts
   unfolding suffixes_from
   suffixes_turn found ts a =
       suffixes_enough (length ts) (suc (length ts)) found ts a (omega arith) (omega arith)
-      ∙ same_test (begins_suffix ts) (found_more (length ts) found ts) (and_then (suffix n ts) (λ x. rest_suffixes (found ++ x ∷ []))) (Ok (found, ts))
-      (same_then (suffix n ts) (λ x. suffixes_from n (length ts) (found ++ x ∷ [])) (λ x. rest_suffixes (found ++ x ∷ []))
+      ∙ same_test (begins_suffix ts) (found_more (length ts) found ts) (read_then (suffix_rule n ts) (λ x. rest_suffixes (found ++ x ∷ []))) (Ok (found, ts))
+      (same_then (suffix_rule n ts) (λ x. suffixes_from n (length ts) (found ++ x ∷ [])) (λ x. rest_suffixes (found ++ x ∷ []))
       (λ x us is. (let p : Past ts us = goes ts us x is a in suffixes_enough (length ts) (length us) (found ++ x ∷ []) us p.are (omega (arith, p.shorter)) (omega arith))))
 
-module _ (n : Bool → Rule Expr) (deeper : ℕ → Bool → Rule Expr) (hs : (ts : Tokens) → AreTokens ts → Alike false (suffix n ts) (λ m. suffix (deeper m)) ts)
-    (goes : (ts us : Tokens) (x : Suffix) → suffix n ts ≡ Ok (x, us) → GoesPast ts us)
-    (goes' : (m : ℕ) (ts us : Tokens) (x : Suffix) → suffix (deeper m) ts ≡ Ok (x, us) → GoesPast ts us) where
+module _ (n : Bool → Rule Expr) (deeper : ℕ → Bool → Rule Expr) (hs : (ts : Tokens) → AreTokens ts → Alike false (suffix_rule n ts) (λ m. suffix_rule (deeper m)) ts)
+    (goes : (ts us : Tokens) (x : Suffix) → suffix_rule n ts ≡ Ok (x, us) → GoesPast ts us)
+    (goes' : (m : ℕ) (ts us : Tokens) (x : Suffix) → suffix_rule (deeper m) ts ≡ Ok (x, us) → GoesPast ts us) where
   suffixes_from_alike : (count : ℕ) (found : List Suffix) (ts : Tokens) → length ts ≤ count → AreTokens ts → Alike false (suffixes_from n count found ts) (λ m. rest_suffixes (deeper m) (goes' m) found) ts
   unfolding suffixes_from
   suffixes_from_alike zero found ts l a = some_tokens ts a l
   suffixes_from_alike (suc count) found ts l a =
       all_alike (λ m. rest_suffixes (deeper m) (goes' m) found) (λ m. one_suffix (deeper m) (goes' m) found) (λ m us b. suffixes_turn (deeper m) (goes' m) found us b) false
       (suffixes_from n (suc count) found ts) ts a
-      (test_alike false begins_suffix begins_first (and_then (suffix n ts) (λ x. suffixes_from n count (found ++ x ∷ []))) (Ok (found, ts))
-      (λ m us. and_then (suffix (deeper m) us) (λ x. rest_suffixes (deeper m) (goes' m) (found ++ x ∷ []))) (λ m us. Ok (found, us)) ts a
-      (λ _. bind_alike false (suffix n ts) (λ m. suffix (deeper m)) (λ x. suffixes_from n count (found ++ x ∷ [])) (λ m x. rest_suffixes (deeper m) (goes' m) (found ++ x ∷ [])) ts (hs ts a)
+      (test_alike false begins_suffix begins_first (read_then (suffix_rule n ts) (λ x. suffixes_from n count (found ++ x ∷ []))) (Ok (found, ts))
+      (λ m us. read_then (suffix_rule (deeper m) us) (λ x. rest_suffixes (deeper m) (goes' m) (found ++ x ∷ []))) (λ m us. Ok (found, us)) ts a
+      (λ _. bind_alike false (suffix_rule n ts) (λ m. suffix_rule (deeper m)) (λ x. suffixes_from n count (found ++ x ∷ [])) (λ m x. rest_suffixes (deeper m) (goes' m) (found ++ x ∷ [])) ts (hs ts a)
       (λ x us is b. (let p : Past ts us = goes ts us x is a in suffixes_from_alike count (found ++ x ∷ []) us (omega (arith, p.shorter)) b)))
       (λ _. pure_alike found ts a))
 
@@ -205,8 +205,8 @@ module _ (level : ℕ) (operand : Rule Expr) (deeper : ℕ → Rule Expr) (ho : 
       → Alike false (tail_by operand o found rest ts) (λ m. tail_by (deeper m) o found (rest_tails level (deeper m) (goes' m))) ts
   tail_alike None found rest ts is a h = pure_alike found ts a
   tail_alike (Some op) found rest ts is a h =
-      loosely (and_then (operand (next ts)) (after_tail op found rest)) (λ m us. and_then (deeper m (next us)) (after_tail op found (rest_tails level (deeper m) (goes' m)))) ts
-      (taken_alike (λ us. and_then (operand us) (after_tail op found rest)) (λ m us. and_then (deeper m us) (after_tail op found (rest_tails level (deeper m) (goes' m)))) ts
+      loosely (read_then (operand (next ts)) (after_tail op found rest)) (λ m us. read_then (deeper m (next us)) (after_tail op found (rest_tails level (deeper m) (goes' m)))) ts
+      (taken_alike (λ us. read_then (operand us) (after_tail op found rest)) (λ m us. read_then (deeper m us) (after_tail op found (rest_tails level (deeper m) (goes' m)))) ts
       (operator_no_last level (kind ts) op is) a
       (λ b shorter. bind_alike false (operand (next ts)) deeper (after_tail op found rest) (λ m. after_tail op found (rest_tails level (deeper m) (goes' m))) (next ts) (ho (next ts) b)
       (λ x us e c. (let q : Past (next ts) us = goes (next ts) us x e b in h (found ++ (op, x) ∷ []) us (omega (arith, shorter, q.shorter)) c))))
@@ -231,7 +231,7 @@ module _ (level : ℕ) (operand : Rule Expr) (deeper : ℕ → Rule Expr) (ho : 
 
 module _ (room : ℕ) (inner : Bool → Rule Statement) (l : Bool) (goes : (ts us : Tokens) (x : Statement) → inner l ts ≡ Ok (x, us) → GoesPast ts us) where
   abbrev block_more : ℕ → List Statement → Rule (List Statement)
-  block_more count found us = and_then (inner l us) (λ x. block_from room inner l count (found ++ x ∷ []))
+  block_more count found us = read_then (inner l us) (λ x. block_from room inner l count (found ++ x ∷ []))
 
   block_enough : (c d : ℕ) (found : List Statement) (ts : Tokens) → AreTokens ts → length ts ≤ c → length ts ≤ d → block_from room inner l c found ts ≡ block_from room inner l d found ts
   unfolding block_from
@@ -239,7 +239,7 @@ module _ (room : ℕ) (inner : Bool → Rule Statement) (l : Bool) (goes : (ts u
   block_enough (suc c) zero found ts a h i = some_tokens ts a i
   block_enough (suc c) (suc d) found ts a h i =
       let b : Behind ts (after signs.BraceClose ts) = after_behind signs.BraceClose ts a in
-      same_other (sees signs.BraceClose ts) (block_more c found) (block_more d found) (pure found) (after signs.BraceClose ts)
+      same_other (sees signs.BraceClose ts) (block_more c found) (block_more d found) (pure_rule found) (after signs.BraceClose ts)
       (same_then (inner l (after signs.BraceClose ts)) (λ x. block_from room inner l c (found ++ x ∷ [])) (λ x. block_from room inner l d (found ++ x ∷ []))
       (λ x us is. (let p : Past (after signs.BraceClose ts) us = goes (after signs.BraceClose ts) us x is b.are in
       block_enough c d (found ++ x ∷ []) us p.are (omega (arith, p.shorter, b.no_longer)) (omega (arith, p.shorter, b.no_longer)))))
@@ -248,14 +248,14 @@ module _ (room : ℕ) (inner : Bool → Rule Statement) (l : Bool) (goes : (ts u
   rest_block found us = block_from room inner l (length us) found us
 
   abbrev one_statement : List Statement → Rule (List Statement)
-  one_statement found us = cond (sees signs.BraceClose us) (pure found) (λ vs. and_then (inner l vs) (λ x. rest_block (found ++ x ∷ []))) (after signs.BraceClose us)
+  one_statement found us = cond (sees signs.BraceClose us) (pure_rule found) (λ vs. read_then (inner l vs) (λ x. rest_block (found ++ x ∷ []))) (after signs.BraceClose us)
 
   block_turn : (found : List Statement) (ts : Tokens) → AreTokens ts → rest_block found ts ≡ one_statement found ts
   unfolding block_from
   block_turn found ts a =
       let b : Behind ts (after signs.BraceClose ts) = after_behind signs.BraceClose ts a in
       block_enough (length ts) (suc (length ts)) found ts a (omega arith) (omega arith)
-      ∙ same_other (sees signs.BraceClose ts) (block_more (length ts) found) (λ vs. and_then (inner l vs) (λ x. rest_block (found ++ x ∷ []))) (pure found) (after signs.BraceClose ts)
+      ∙ same_other (sees signs.BraceClose ts) (block_more (length ts) found) (λ vs. read_then (inner l vs) (λ x. rest_block (found ++ x ∷ []))) (pure_rule found) (after signs.BraceClose ts)
       (same_then (inner l (after signs.BraceClose ts)) (λ x. block_from room inner l (length ts) (found ++ x ∷ [])) (λ x. rest_block (found ++ x ∷ []))
       (λ x us is. (let p : Past (after signs.BraceClose ts) us = goes (after signs.BraceClose ts) us x is b.are in
       block_enough (length ts) (length us) (found ++ x ∷ []) us p.are (omega (arith, p.shorter, b.no_longer)) (omega arith))))
@@ -270,12 +270,12 @@ module _ (room : ℕ) (more : ℕ → ℕ) (inner : Bool → Rule Statement) (de
   block_from_alike (suc count) found ts c a =
       all_alike (λ m. rest_block (more m) (deeper m) l (goes' m) found) (λ m. one_statement (more m) (deeper m) l (goes' m) found) (λ m us b. block_turn (more m) (deeper m) l (goes' m) found us b) false
       (block_from room inner l (suc count) found ts) ts a
-      (eat_alike signs.BraceClose (pure found) (λ us. and_then (inner l us) (λ x. block_from room inner l count (found ++ x ∷ []))) (λ m. pure found)
-      (λ m us. and_then (deeper m l us) (λ x. rest_block (more m) (deeper m) l (goes' m) (found ++ x ∷ []))) ts a
+      (eat_alike signs.BraceClose (pure_rule found) (λ us. read_then (inner l us) (λ x. block_from room inner l count (found ++ x ∷ []))) (λ m. pure_rule found)
+      (λ m us. read_then (deeper m l us) (λ x. rest_block (more m) (deeper m) l (goes' m) (found ++ x ∷ []))) ts a
       (λ _ b _. pure_alike found (next ts) b)
       (λ _. bind_alike false (inner l ts) (λ m. deeper m l) (λ x. block_from room inner l count (found ++ x ∷ [])) (λ m x. rest_block (more m) (deeper m) l (goes' m) (found ++ x ∷ [])) ts (hi ts a)
       (λ x us is b. (let p : Past ts us = goes ts us x is a in block_from_alike count (found ++ x ∷ []) us (omega (arith, p.shorter)) b))))
 
-  pub block_alike : (ts : Tokens) → AreTokens ts → Alike false (block room inner l ts) (λ m. block (more m) (deeper m) l) ts
-  unfolding block turns
+  pub block_alike : (ts : Tokens) → AreTokens ts → Alike false (block_rule room inner l ts) (λ m. block_rule (more m) (deeper m) l) ts
+  unfolding block_rule turns
   block_alike ts a = block_from_alike (length ts) [] ts (omega arith) a

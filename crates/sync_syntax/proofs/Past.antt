@@ -17,7 +17,7 @@ use Rattle.sync_syntax.specs.declared.tree.Simple.{Simple}
 use Rattle.sync_syntax.specs.declared.tree.Start.{Start}
 use Rattle.sync_syntax.specs.declared.tree.Statement.{Statement}
 use Rattle.sync_syntax.specs.Reading.{Tokens, kind, next}
-use Rattle.sync_syntax.specs.Operators.{operator, operator_at, prefix, declares_by, writing_by}
+use Rattle.sync_syntax.specs.Operators.{operator, operator_at, prefix_by, declares_by, writing_by}
 use Rattle.sync_syntax.specs.Grammar as g
 use Rattle.sync_syntax.specs.Grammar.{Takes, IsKey, IsExpr, IsChain, AreTails, IsUnary, AreSuffixes, IsSuffix, AreListed, AreExprs, AreFields, AreMembers, IsMember, IsPrimary, IsNamed, Ends, IsGiven, AreDeclared, IsDeclaration, IsSimple, IsExprOrNone, IsStart, IsStatement, IsOtherwise, AreStatements, IsOwnName, IsSecond, IsHead}
 
@@ -97,9 +97,9 @@ pub operator_past : (n : ℕ) (k : Kind) (o : Operator) {ts us : Tokens} → Tak
 unfolding operator_at operator
 operator_past n k o take is = token_past k take (not_last (operator_at n) k o refl (λ why. refl) is)
 
-pub prefix_past : (k : Kind) (o : Prefix) {ts us : Tokens} → Takes k ts us → prefix k ≡ Some o → GoesPast ts us
-unfolding prefix
-prefix_past k o take is = token_past k take (not_last prefix k o refl (λ why. refl) is)
+pub prefix_past : (k : Kind) (o : Prefix) {ts us : Tokens} → Takes k ts us → prefix_by k ≡ Some o → GoesPast ts us
+unfolding prefix_by
+prefix_past k o take is = token_past k take (not_last prefix_by k o refl (λ why. refl) is)
 
 pub declares_past : (k : Kind) (o : Declares) {ts us : Tokens} → Takes k ts us → declares_by k ≡ Some o → GoesPast ts us
 unfolding declares_by

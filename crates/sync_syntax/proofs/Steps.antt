@@ -14,9 +14,9 @@ use Rattle.sync_syntax.specs.declared.tree.Expr.{Expr}
 use Rattle.sync_syntax.specs.declared.tree.Expr.TheVariants as e
 use Rattle.sync_syntax.specs.declared.tree.Suffix.{Suffix}
 use Rattle.sync_syntax.specs.declared.tree.Suffix.TheVariants as suffixes
-use Rattle.sync_syntax.specs.Reading.{Tokens, Outcome, Rule, kind, next, place, same_sign, is_sign, sees, sees_word, after, after_word, expect, expect_word, name, separated_from}
-use Rattle.sync_syntax.specs.Operators.{operator_at, prefix}
-use Rattle.sync_syntax.specs.Expressions.{key, followed, chained, begins_suffix, tails_from, tails, list, member, members, separated_in, some_members, primary, suffix, suffixes_from, all_suffixes, postfix, unary, unary_in, chain, chain_in, choice, opened, nested}
+use Rattle.sync_syntax.specs.Reading.{Tokens, Outcome, Rule, kind, next, place, same_sign, is_sign, sees, sees_word, after, after_word, expect, expect_word, name_rule, separated_from}
+use Rattle.sync_syntax.specs.Operators.{operator_at, prefix_by}
+use Rattle.sync_syntax.specs.Expressions.{key, followed, chained, begins_suffix, tails_from, tails, list_rule, member_rule, members_rule, separated_in, some_members, primary, suffix_rule, suffixes_from, all_suffixes, postfix_rule, unary, unary_in, chain_rule, chain_in, choice_rule, expr_or_operand, nested}
 use Rattle.sync_syntax.specs.Grammar as g
 use Rattle.sync_syntax.specs.Grammar.{Takes, IsKey, IsSuffix}
 use Rattle.sync_syntax.proofs.Fronts.{takes_sees, takes_sees_word, unseen}
@@ -58,8 +58,8 @@ pub expect_word_read : (w : Word) {ts us : Tokens} → Takes (kinds.Word w) ts u
 unfolding expect_word
 expect_word_read w k = rw (takes_sees_word w k) (got tt k.rest)
 
-pub name_read : {n : List ℕ} {ts us : Tokens} → Takes (kinds.Name n) ts us → name ts ≡ Ok (n, us)
-unfolding name
+pub name_read : {n : List ℕ} {ts us : Tokens} → Takes (kinds.Name n) ts us → name_rule ts ≡ Ok (n, us)
+unfolding name_rule
 name_read {n} k = rw k.is (got n k.rest)
 
 pub key_read : {ts us : Tokens} {n : List ℕ} → IsKey ts n us → key ts ≡ Ok (n, us)
@@ -81,27 +81,27 @@ separated_more item count found i k r = rw (i, takes_sees signs.Comma k, after_t
 
 -- ---- what stands in brackets
 
-pub list_none : (n : Bool → Rule Expr) (close : Sign) {ts us : Tokens} → Takes (kinds.Sign close) ts us → list n close ts ≡ Ok ([], us)
-unfolding list
+pub list_none : (n : Bool → Rule Expr) (close : Sign) {ts us : Tokens} → Takes (kinds.Sign close) ts us → list_rule n close ts ≡ Ok ([], us)
+unfolding list_rule
 list_none n close k = rw (takes_sees close k, after_taken close k) refl
 
 pub list_some : (n : Bool → Rule Expr) (close : Sign) (ts : Tokens) {us vs : Tokens} {xs : List Expr} → sees close ts ≡ false → separated_in n ts ≡ Ok (xs, us)
-    → Takes (kinds.Sign close) us vs → list n close ts ≡ Ok (xs, vs)
-unfolding list
+    → Takes (kinds.Sign close) us vs → list_rule n close ts ≡ Ok (xs, vs)
+unfolding list_rule
 list_some n close ts h r k = rw (h, after_none close h, r, expect_read close k) refl
 
-pub members_none : (n : Bool → Rule Expr) {ts us : Tokens} → Takes (kinds.Sign signs.BraceClose) ts us → members n ts ≡ Ok ([], us)
-unfolding members
+pub members_none : (n : Bool → Rule Expr) {ts us : Tokens} → Takes (kinds.Sign signs.BraceClose) ts us → members_rule n ts ≡ Ok ([], us)
+unfolding members_rule
 members_none n k = rw (takes_sees signs.BraceClose k, after_taken signs.BraceClose k) refl
 
 pub members_some : (n : Bool → Rule Expr) (ts : Tokens) {us vs : Tokens} {xs : List (List ℕ × Expr)} → sees signs.BraceClose ts ≡ false → some_members n ts ≡ Ok (xs, us)
-    → Takes (kinds.Sign signs.BraceClose) us vs → members n ts ≡ Ok (xs, vs)
-unfolding members
+    → Takes (kinds.Sign signs.BraceClose) us vs → members_rule n ts ≡ Ok (xs, vs)
+unfolding members_rule
 members_some n ts h r k = rw (h, after_none signs.BraceClose h, r, expect_read signs.BraceClose k) refl
 
 pub member_step : (n : Bool → Rule Expr) {ts us vs ws : Tokens} {key : List ℕ} {x : Expr} → IsKey ts key us → Takes (kinds.Sign signs.Colon) us vs
-    → n false vs ≡ Ok (x, ws) → member n ts ≡ Ok ((key, x), ws)
-unfolding member
+    → n false vs ≡ Ok (x, ws) → member_rule n ts ≡ Ok ((key, x), ws)
+unfolding member_rule
 member_step n i k r = rw (key_read i, expect_read signs.Colon k, r) refl
 
 -- ---- primaries
@@ -139,12 +139,12 @@ pub parentheses_step : (n : Bool → Rule Expr) {ts us vs ws : Tokens} {x : Expr
 unfolding primary
 parentheses_step n k r l = rw (k.is, ← k.rest, r, expect_read signs.ParenClose l) refl
 
-pub list_step : (n : Bool → Rule Expr) {ts us vs : Tokens} {xs : List Expr} → Takes (kinds.Sign signs.BracketOpen) ts us → list n signs.BracketClose us ≡ Ok (xs, vs)
+pub list_step : (n : Bool → Rule Expr) {ts us vs : Tokens} {xs : List Expr} → Takes (kinds.Sign signs.BracketOpen) ts us → list_rule n signs.BracketClose us ≡ Ok (xs, vs)
     → primary n ts ≡ Ok (e.List (place ts) xs, vs)
 unfolding primary
 list_step n k r = rw (k.is, ← k.rest, r) refl
 
-pub object_step : (n : Bool → Rule Expr) {ts us vs : Tokens} {xs : List (List ℕ × Expr)} → Takes (kinds.Sign signs.BraceOpen) ts us → members n us ≡ Ok (xs, vs)
+pub object_step : (n : Bool → Rule Expr) {ts us vs : Tokens} {xs : List (List ℕ × Expr)} → Takes (kinds.Sign signs.BraceOpen) ts us → members_rule n us ≡ Ok (xs, vs)
     → primary n ts ≡ Ok (e.Object (place ts) xs, vs)
 unfolding primary
 object_step n k r = rw (k.is, ← k.rest, r) refl
@@ -152,8 +152,8 @@ object_step n k r = rw (k.is, ← k.rest, r) refl
 -- ---- suffixes
 
 pub member_suffix_step : (n : Bool → Rule Expr) {ts us vs : Tokens} {m : List ℕ} → Takes (kinds.Sign signs.Dot) ts us → Takes (kinds.Name m) us vs
-    → suffix n ts ≡ Ok (suffixes.Member m, vs)
-unfolding suffix
+    → suffix_rule n ts ≡ Ok (suffixes.Member m, vs)
+unfolding suffix_rule
 member_suffix_step n k m = rw (takes_sees signs.Dot k, after_taken signs.Dot k, name_read m) refl
 
 bracket_no_dot : is_sign signs.Dot (kinds.Sign signs.BracketOpen) ≡ false
@@ -169,15 +169,15 @@ unfolding same_sign
 paren_no_bracket = refl
 
 pub index_suffix_step : (n : Bool → Rule Expr) {ts us vs ws : Tokens} {x : Expr} → Takes (kinds.Sign signs.BracketOpen) ts us → n false us ≡ Ok (x, vs)
-    → Takes (kinds.Sign signs.BracketClose) vs ws → suffix n ts ≡ Ok (suffixes.Index x, ws)
-unfolding suffix
+    → Takes (kinds.Sign signs.BracketClose) vs ws → suffix_rule n ts ≡ Ok (suffixes.Index x, ws)
+unfolding suffix_rule
 index_suffix_step n k r l =
     let no_dot = unseen signs.Dot _ k bracket_no_dot in
     rw (no_dot, after_none signs.Dot no_dot, takes_sees signs.BracketOpen k, after_taken signs.BracketOpen k, r, expect_read signs.BracketClose l) refl
 
-pub call_suffix_step : (n : Bool → Rule Expr) {ts us vs : Tokens} {xs : List Expr} → Takes (kinds.Sign signs.ParenOpen) ts us → list n signs.ParenClose us ≡ Ok (xs, vs)
-    → suffix n ts ≡ Ok (suffixes.Call xs, vs)
-unfolding suffix
+pub call_suffix_step : (n : Bool → Rule Expr) {ts us vs : Tokens} {xs : List Expr} → Takes (kinds.Sign signs.ParenOpen) ts us → list_rule n signs.ParenClose us ≡ Ok (xs, vs)
+    → suffix_rule n ts ≡ Ok (suffixes.Call xs, vs)
+unfolding suffix_rule
 call_suffix_step n k r =
     let no_dot = unseen signs.Dot _ k paren_no_dot in
     let no_bracket = unseen signs.BracketOpen _ k paren_no_bracket in
@@ -194,26 +194,26 @@ unfolding suffixes_from
 suffixes_stop n count found ts h = rw h refl
 
 pub suffixes_more : (n : Bool → Rule Expr) (count : ℕ) (found : List Suffix) {ts us : Tokens} {x : Suffix} {out : Outcome (List Suffix)} → IsSuffix ts x us
-    → suffix n ts ≡ Ok (x, us) → suffixes_from n count (found ++ x ∷ []) us ≡ out → suffixes_from n (suc count) found ts ≡ out
+    → suffix_rule n ts ≡ Ok (x, us) → suffixes_from n count (found ++ x ∷ []) us ≡ out → suffixes_from n (suc count) found ts ≡ out
 unfolding suffixes_from
 suffixes_more n count found s r h = rw (suffix_begins s, r) h
 
-pub postfix_step : (room : ℕ) (n : Bool → Rule Expr) (ts us : Tokens) {vs : Tokens} {x : Expr} {xs : List Suffix} → prefix (kind ts) ≡ None → primary n ts ≡ Ok (x, us)
+pub postfix_step : (room : ℕ) (n : Bool → Rule Expr) (ts us : Tokens) {vs : Tokens} {x : Expr} {xs : List Suffix} → prefix_by (kind ts) ≡ None → primary n ts ≡ Ok (x, us)
     → all_suffixes n us ≡ Ok (xs, vs) → unary room n ts ≡ Ok (followed x xs, vs)
-unfolding unary postfix
+unfolding unary postfix_rule
 postfix_step room n ts us none r s = rw (none, r, s) refl
 
 -- ---- operators
 
 pub operand_step : (room : ℕ) (ts : Tokens) → nested (suc room) true ts ≡ unary_in room ts
-unfolding nested opened
+unfolding nested expr_or_operand
 operand_step room ts = refl
 
 some_room : (n : ℕ) (b : Bool) → (suc n == 0) ≡ b → b ≡ false
 some_room n true h = absurd (let none : suc n ≡ 0 = eqb-true (suc n) 0 h in omega arith)
 some_room n false h = refl
 
-pub prefixed_step : (room : ℕ) {k : Kind} {op : Prefix} {ts us vs : Tokens} {x : Expr} → Takes k ts us → prefix k ≡ Some op
+pub prefixed_step : (room : ℕ) {k : Kind} {op : Prefix} {ts us vs : Tokens} {x : Expr} → Takes k ts us → prefix_by k ≡ Some op
     → nested (suc room) true us ≡ Ok (x, vs) → unary_in (suc room) ts ≡ Ok (e.Prefix (place ts) op x, vs)
 unfolding unary
 prefixed_step room take is r = rw (take.is, is, some_room room (suc room == 0) refl, ← take.rest, r) refl
@@ -230,20 +230,20 @@ unfolding tails_from
 tails_more level operand count found take is r h = rw (take.is, is, ← take.rest, r) h
 
 pub chain_zero : (room : ℕ) (ts : Tokens) → chain_in room 0 ts ≡ unary_in room ts
-unfolding chain
+unfolding chain_rule
 chain_zero room ts = refl
 
 pub chain_step : (room level : ℕ) (ts us : Tokens) {vs : Tokens} {x : Expr} {xs : List (Operator × Expr)} → chain_in room level ts ≡ Ok (x, us)
     → tails (suc level) (chain_in room level) us ≡ Ok (xs, vs) → chain_in room (suc level) ts ≡ Ok (chained x xs, vs)
-unfolding chain
+unfolding chain_rule
 chain_step room level ts us r s = rw (r, s) refl
 
 pub no_choice_step : (room : ℕ) (ts us : Tokens) {x : Expr} → chain_in room 6 ts ≡ Ok (x, us) → sees signs.Question us ≡ false → nested (suc room) false ts ≡ Ok (x, us)
-unfolding nested opened choice
+unfolding nested expr_or_operand choice_rule
 no_choice_step room ts us r none = rw (r, none, after_none signs.Question none) refl
 
 pub choice_step : (room : ℕ) (ts : Tokens) {us vs ws xs ys : Tokens} {x a b : Expr} → chain_in room 6 ts ≡ Ok (x, us) → Takes (kinds.Sign signs.Question) us vs
     → nested room false vs ≡ Ok (a, ws) → Takes (kinds.Sign signs.Colon) ws xs → nested room false xs ≡ Ok (b, ys)
     → nested (suc room) false ts ≡ Ok (e.Choice x a b, ys)
-unfolding nested opened choice
+unfolding nested expr_or_operand choice_rule
 choice_step room ts r q s k t = rw (r, takes_sees signs.Question q, after_taken signs.Question q, s, expect_read signs.Colon k, t) refl

@@ -25,7 +25,7 @@ use Rattle.sync_syntax.specs.declared.tree.Statement.{Statement}
 use Rattle.sync_syntax.specs.declared.tree.Statement.TheVariants as s
 use Rattle.sync_syntax.specs.declared.tree.Program.{Program}
 use Rattle.sync_syntax.specs.Reading.{Tokens, kind, next, place, sees, sees_word}
-use Rattle.sync_syntax.specs.Operators.{operator_at, prefix, declares_by, writing_by}
+use Rattle.sync_syntax.specs.Operators.{operator_at, prefix_by, declares_by, writing_by}
 use Rattle.sync_syntax.specs.Expressions.{followed, chained}
 
 -- the next token of ts is this one, and us come behind it
@@ -59,7 +59,7 @@ mutual
 
   -- unary = ("!"|"-"|"typeof") unary | postfix, where postfix = primary and its suffixes
   pub data IsUnary : Tokens → Expr → Tokens → Type 0 where
-    prefixed : {ts us vs : Tokens} {k : Kind} {op : Prefix} {x : Expr} → Takes k ts us → prefix k ≡ Some op → IsUnary us x vs → IsUnary ts (e.Prefix (place ts) op x) vs
+    prefixed : {ts us vs : Tokens} {k : Kind} {op : Prefix} {x : Expr} → Takes k ts us → prefix_by k ≡ Some op → IsUnary us x vs → IsUnary ts (e.Prefix (place ts) op x) vs
     postfix : {ts us vs : Tokens} {x : Expr} {found : List Suffix} → IsPrimary ts x us → AreSuffixes us found vs → IsUnary ts (followed x found) vs
 
   pub data AreSuffixes : Tokens → List Suffix → Tokens → Type 0 where

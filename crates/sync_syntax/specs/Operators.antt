@@ -71,10 +71,10 @@ word_prefix words.Typeof = Some prefixes.Typeof
 word_prefix _ = None
 
 -- the operator before an operand that a token is
-unfoldable pub prefix : Kind → Option Prefix
-prefix (kinds.Sign s) = sign_prefix s
-prefix (kinds.Word w) = word_prefix w
-prefix _ = None
+unfoldable pub prefix_by : Kind → Option Prefix
+prefix_by (kinds.Sign s) = sign_prefix s
+prefix_by (kinds.Word w) = word_prefix w
+prefix_by _ = None
 
 abbrev pub word_declares : Word → Option Declares
 word_declares words.Var = Some declares.Var
@@ -100,6 +100,6 @@ unfoldable pub writing_by : Kind → Option Writing
 writing_by (kinds.Sign s) = sign_writes s
 writing_by _ = None
 
-abbrev pub is_name : Kind → Bool
-is_name (kinds.Name n) = true
-is_name _ = false
+abbrev pub is_name_kind : Kind → Bool
+is_name_kind (kinds.Name n) = true
+is_name_kind _ = false

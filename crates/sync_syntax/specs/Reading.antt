@@ -1,7 +1,7 @@
 -- What a rule reads from, and the steps that every rule is made of.
 use Rattle.std.specs.Prelude.{◌≡◌, ◌≢◌, ℕ, zero, suc, Bool, false, if◌then◌else◌, List, [], ◌∷◌, ◌++◌, length, Result, Ok, Err}
 use denote.Enum.Bare.{sameb}
-use Rattle.sync_tokens.specs.Places.{start}
+use Rattle.sync_tokens.specs.Places.{first_place}
 use Rattle.sync_tokens.specs.declared.place.Place.{Place}
 use Rattle.sync_tokens.specs.declared.place.SyntaxWhy.{SyntaxWhy}
 use Rattle.sync_tokens.specs.declared.place.SyntaxWhy.TheVariants.{Unexpected, TooDeep}
@@ -27,7 +27,7 @@ kind [] = kinds.End
 kind (t ∷ ts) = t.kind
 
 unfoldable pub place : Tokens → Place
-place [] = start
+place [] = first_place
 place (t ∷ ts) = t.place
 
 unfoldable pub next : Tokens → Tokens
@@ -68,41 +68,41 @@ Outcome A = Result (A × Tokens) ParseFault
 abbrev pub Rule : Type 0 → Type 0
 Rule A = Tokens → Outcome A
 
-abbrev pub and_then : {A B : Type 0} → Outcome A → (A → Rule B) → Outcome B
-and_then (Ok p) f = f p.0 p.1
-and_then (Err e) f = Err e
+abbrev pub read_then : {A B : Type 0} → Outcome A → (A → Rule B) → Outcome B
+read_then (Ok p) f = f p.0 p.1
+read_then (Err e) f = Err e
 
 infixl 10 ◌>>=◌
 abbrev pub ◌>>=◌ : {A B : Type 0} → Rule A → (A → Rule B) → Rule B
-p >>= f = λ ts. and_then (p ts) f
+p >>= f = λ ts. read_then (p ts) f
 
 infixl 10 ◌>>◌
 abbrev pub ◌>>◌ : {A B : Type 0} → Rule A → Rule B → Rule B
 p >> q = p >>= (λ _. q)
 
-abbrev pub pure : {A : Type 0} → A → Rule A
-pure a = λ ts. Ok (a, ts)
+abbrev pub pure_rule : {A : Type 0} → A → Rule A
+pure_rule a = λ ts. Ok (a, ts)
 
 infixr 11 ◌<$>◌
 abbrev pub ◌<$>◌ : {A B : Type 0} → (A → B) → Rule A → Rule B
-f <$> p = p >>= (λ x. pure (f x))
+f <$> p = p >>= (λ x. pure_rule (f x))
 
 -- the fault at a token: its own, if it is none, else this one
 abbrev pub why_at : Kind → SyntaxWhy → SyntaxWhy
 why_at (kinds.Bad why) other = why
 why_at _ other = other
 
-abbrev pub fault : SyntaxWhy → Tokens → ParseFault
-fault why ts = Bad (record { place = place ts; why = why_at (kind ts) why })
+abbrev pub fault_here : SyntaxWhy → Tokens → ParseFault
+fault_here why ts = Bad (record { place = place ts; why = why_at (kind ts) why })
 
-unfoldable pub refusal : Tokens → ParseFault
-refusal = fault Unexpected
+unfoldable pub refused_at : Tokens → ParseFault
+refused_at = fault_here Unexpected
 
 abbrev pub refuse : {A : Type 0} → Rule A
-refuse = λ ts. Err (refusal ts)
+refuse = λ ts. Err (refused_at ts)
 
 unfoldable pub too_deep : Tokens → ParseFault
-too_deep = fault TooDeep
+too_deep = fault_here TooDeep
 
 abbrev pub take : Rule (Unit {0})
 take = λ ts. Ok (tt, next ts)
@@ -133,8 +133,8 @@ abbrev pub name_by : Kind → Rule (List ℕ)
 name_by (kinds.Name n) = λ ts. Ok (n, next ts)
 name_by _ = refuse
 
-unfoldable pub name : Rule (List ℕ)
-name = λ ts. name_by (kind ts) ts
+unfoldable pub name_rule : Rule (List ℕ)
+name_rule = λ ts. name_by (kind ts) ts
 
 -- ---- lists. The number bounds the turns, and each turn takes a token, so the count of tokens is enough.
 
@@ -146,7 +146,7 @@ separated_from item zero found = refuse
 separated_from item (suc n) found = do
   x ← item
   more ← eat signs.Comma
-  if more then separated_from item n (found ++ x ∷ []) else pure (found ++ x ∷ [])
+  if more then separated_from item n (found ++ x ∷ []) else pure_rule (found ++ x ∷ [])
 
 -- one or more, with commas between
 unfoldable pub separated : {A : Type 0} → Rule A → Rule (List A)
@@ -154,6 +154,6 @@ separated item = λ ts. separated_from item (turns ts) [] ts
 
 -- ---- what a function that reads by a rule ensures: what the rule gives, unless memory fails
 
-abbrev pub Reads : {A : Type 0} → Outcome A → Result A ParseFault → Tokens → Type 0
-Reads outcome (Ok a) new = outcome ≡ Ok (a, new)
-Reads outcome (Err e) new = e ≢ Memory → outcome ≡ Err e
+abbrev pub ReadsByRule : {A : Type 0} → Outcome A → Result A ParseFault → Tokens → Type 0
+ReadsByRule outcome (Ok a) new = outcome ≡ Ok (a, new)
+ReadsByRule outcome (Err e) new = e ≢ Memory → outcome ≡ Err e

@@ -1,6 +1,6 @@
 //! What was found, kept while what stands behind it is read.
 
-ghost use Rattle.sync_syntax.specs.Reading.{Reads};
+ghost use Rattle.sync_syntax.specs.Reading.{ReadsByRule};
 ghost use Rattle.sync_syntax.specs.inner.Tails as tails;
 
 use crate::cursor::Tokens;
@@ -14,7 +14,7 @@ pub(crate) fn closed<T: Drop>(
     found: T,
     sign: Sign,
 ) -> Result<T, ParseFault>
-    ensures { Reads (tails.closed found sign tokens.old) result tokens.new }
+    ensures { ReadsByRule (tails.closed found sign tokens.old) result tokens.new }
 {
     tokens.expect(sign)?;
     Ok(found)
@@ -22,7 +22,7 @@ pub(crate) fn closed<T: Drop>(
 
 /// What was found, with the end of a statement behind it.
 pub(crate) fn ended<T: Drop>(tokens: &mut Tokens<'_>, found: T) -> Result<T, ParseFault>
-    ensures { Reads (tails.ended found tokens.old) result tokens.new }
+    ensures { ReadsByRule (tails.ended found tokens.old) result tokens.new }
 {
     ending(tokens)?;
     Ok(found)

@@ -2,7 +2,7 @@
 
 ghost use Rattle.std.specs.Prelude.{◌≡◌, [], MatchOption};
 ghost use Rattle.sync_syntax.specs.Reading as spec;
-ghost use Rattle.sync_syntax.specs.Reading.{Reads};
+ghost use Rattle.sync_syntax.specs.Reading.{ReadsByRule};
 
 use crate::fault::{ParseFault, SyntaxFault};
 use json_doc::DocText;
@@ -81,7 +81,7 @@ impl<'t> Tokens<'t> {
     }
 
     fn fault(&self, why: SyntaxWhy) -> ParseFault
-        ensures { result ≡ spec.fault why self.now }
+        ensures { result ≡ spec.fault_here why self.now }
     {
         let why = match self.kind() {
             Kind::Bad(own) => *own,
@@ -94,9 +94,9 @@ impl<'t> Tokens<'t> {
     }
 
     /// The fault that no rule reads the next token.
-    #[tactic(auto, unfolding(crate::specs::Reading::refusal))]
+    #[tactic(auto, unfolding(crate::specs::Reading::refused_at))]
     pub fn refuse(&self) -> ParseFault
-        ensures { result ≡ spec.refusal self.now }
+        ensures { result ≡ spec.refused_at self.now }
     {
         self.fault(SyntaxWhy::Unexpected)
     }
@@ -157,7 +157,7 @@ impl<'t> Tokens<'t> {
 
     #[tactic(auto, unfolding(crate::specs::Reading::expect))]
     pub fn expect(&mut self, sign: Sign) -> Result<(), ParseFault>
-        ensures { Reads (spec.expect sign self.old) result self.new }
+        ensures { ReadsByRule (spec.expect sign self.old) result self.new }
     {
         if self.sees(sign) {
             self.take();
@@ -169,7 +169,7 @@ impl<'t> Tokens<'t> {
 
     #[tactic(auto, unfolding(crate::specs::Reading::expect_word))]
     pub fn expect_word(&mut self, word: Word) -> Result<(), ParseFault>
-        ensures { Reads (spec.expect_word word self.old) result self.new }
+        ensures { ReadsByRule (spec.expect_word word self.old) result self.new }
     {
         if self.sees_word(word) {
             self.take();
@@ -179,9 +179,9 @@ impl<'t> Tokens<'t> {
         }
     }
 
-    #[tactic(auto, unfolding(crate::specs::Reading::name))]
+    #[tactic(auto, unfolding(crate::specs::Reading::name_rule))]
     pub fn name(&mut self, alloc: Global) -> Result<DocText, ParseFault>
-        ensures { Reads (spec.name self.old) result self.new }
+        ensures { ReadsByRule (spec.name_rule self.old) result self.new }
     {
         match self.kind() {
             Kind::Name(name) => {

@@ -2,7 +2,7 @@
 //! those as a parameter, so that each is proved by itself.
 
 ghost use Rattle.std.specs.Prelude.{◌≡◌, ◌∷◌, ◌≤◌, IfOk};
-ghost use Rattle.sync_syntax.specs.Reading.{Reads};
+ghost use Rattle.sync_syntax.specs.Reading.{ReadsByRule};
 ghost use Rattle.sync_syntax.specs.Expressions as spec;
 ghost use Rattle.sync_syntax.specs.inner.Nests.{Nests};
 
@@ -21,7 +21,7 @@ use sync_tokens::{Kind, Place, Sign, Word};
 /// The key of a member: a name or a text.
 #[tactic(auto, unfolding(crate::specs::Expressions::key))]
 fn key(alloc: Global, tokens: &mut Tokens<'_>) -> Result<DocText, ParseFault>
-    ensures { Reads (spec.key tokens.old) result tokens.new }
+    ensures { ReadsByRule (spec.key tokens.old) result tokens.new }
 {
     match tokens.kind() {
         Kind::Name(name) => {
@@ -40,7 +40,7 @@ fn key(alloc: Global, tokens: &mut Tokens<'_>) -> Result<DocText, ParseFault>
 
 /// A word that is an expression by itself.
 fn word(tokens: &mut Tokens<'_>, place: Place, word: Word) -> Result<Expr, ParseFault>
-    ensures { Reads (spec.word_by place word tokens.old) result tokens.new }
+    ensures { ReadsByRule (spec.expr_by_word place word tokens.old) result tokens.new }
 {
     let found = match word {
         Word::True => Expr::Bool(place, true),
@@ -97,7 +97,7 @@ pub(crate) struct Grammar<F> {
 impl<F: Fn(Global, &mut Tokens<'_>, usize, bool) -> Result<Expr, ParseFault>> Grammar<F> {
     fn nested(&self, tokens: &mut Tokens<'_>, is_operand: bool) -> Result<Expr, ParseFault>
         requires { Nests self.now.room (F.pre self.now.nested) (F.post self.now.nested) }
-        ensures { Reads (spec.nested self.now.room is_operand tokens.old) result tokens.new }
+        ensures { ReadsByRule (spec.nested self.now.room is_operand tokens.old) result tokens.new }
     {
         (self.nested)(self.alloc, tokens, self.room, is_operand)
     }
@@ -105,7 +105,7 @@ impl<F: Fn(Global, &mut Tokens<'_>, usize, bool) -> Result<Expr, ParseFault>> Gr
     /// The same, in a block of its own.
     fn boxed(&self, tokens: &mut Tokens<'_>, is_operand: bool) -> Result<Boxed<Expr>, ParseFault>
         requires { Nests self.now.room (F.pre self.now.nested) (F.post self.now.nested) }
-        ensures { Reads (spec.nested self.now.room is_operand tokens.old) result tokens.new }
+        ensures { ReadsByRule (spec.nested self.now.room is_operand tokens.old) result tokens.new }
     {
         let found = self.nested(tokens, is_operand)?;
         Ok(Boxed::new(self.alloc, found)?)
@@ -114,7 +114,7 @@ impl<F: Fn(Global, &mut Tokens<'_>, usize, bool) -> Result<Expr, ParseFault>> Gr
     /// One or more expressions with commas between.
     fn separated(&self, tokens: &mut Tokens<'_>) -> Result<Items<Expr>, ParseFault>
         requires { Nests self.now.room (F.pre self.now.nested) (F.post self.now.nested) }
-        ensures { Reads (spec.separated_in (spec.nested self.now.room) tokens.old)
+        ensures { ReadsByRule (spec.separated_in (spec.nested self.now.room) tokens.old)
             result tokens.new }
     {
         let mut found = Items::new(self.alloc);
@@ -128,10 +128,10 @@ impl<F: Fn(Global, &mut Tokens<'_>, usize, bool) -> Result<Expr, ParseFault>> Gr
     }
 
     /// Expressions with commas between, or none, up to this sign and with it.
-    #[tactic(auto, unfolding(crate::specs::Expressions::list))]
+    #[tactic(auto, unfolding(crate::specs::Expressions::list_rule))]
     fn list(&self, tokens: &mut Tokens<'_>, close: Sign) -> Result<Items<Expr>, ParseFault>
         requires { Nests self.now.room (F.pre self.now.nested) (F.post self.now.nested) }
-        ensures { Reads (spec.list (spec.nested self.now.room) close tokens.old) result tokens.new }
+        ensures { ReadsByRule (spec.list_rule (spec.nested self.now.room) close tokens.old) result tokens.new }
     {
         if tokens.eat(close) {
             return Ok(Items::new(self.alloc));
@@ -141,10 +141,10 @@ impl<F: Fn(Global, &mut Tokens<'_>, usize, bool) -> Result<Expr, ParseFault>> Gr
         Ok(fitted(self.alloc, found)?)
     }
 
-    #[tactic(auto, unfolding(crate::specs::Expressions::member))]
+    #[tactic(auto, unfolding(crate::specs::Expressions::member_rule))]
     fn member(&self, tokens: &mut Tokens<'_>) -> Result<(DocText, Expr), ParseFault>
         requires { Nests self.now.room (F.pre self.now.nested) (F.post self.now.nested) }
-        ensures { Reads (spec.member (spec.nested self.now.room) tokens.old) result tokens.new }
+        ensures { ReadsByRule (spec.member_rule (spec.nested self.now.room) tokens.old) result tokens.new }
     {
         let key = key(self.alloc, tokens)?;
         tokens.expect(Sign::Colon)?;
@@ -155,7 +155,7 @@ impl<F: Fn(Global, &mut Tokens<'_>, usize, bool) -> Result<Expr, ParseFault>> Gr
     /// One or more members with commas between.
     fn some_members(&self, tokens: &mut Tokens<'_>) -> Result<Items<(DocText, Expr)>, ParseFault>
         requires { Nests self.now.room (F.pre self.now.nested) (F.post self.now.nested) }
-        ensures { Reads (spec.some_members (spec.nested self.now.room) tokens.old)
+        ensures { ReadsByRule (spec.some_members (spec.nested self.now.room) tokens.old)
             result tokens.new }
     {
         let mut found = Items::new(self.alloc);
@@ -168,10 +168,10 @@ impl<F: Fn(Global, &mut Tokens<'_>, usize, bool) -> Result<Expr, ParseFault>> Gr
         Err(tokens.refuse())
     }
 
-    #[tactic(auto, unfolding(crate::specs::Expressions::members))]
+    #[tactic(auto, unfolding(crate::specs::Expressions::members_rule))]
     fn members(&self, tokens: &mut Tokens<'_>) -> Result<Items<(DocText, Expr)>, ParseFault>
         requires { Nests self.now.room (F.pre self.now.nested) (F.post self.now.nested) }
-        ensures { Reads (spec.members (spec.nested self.now.room) tokens.old) result tokens.new }
+        ensures { ReadsByRule (spec.members_rule (spec.nested self.now.room) tokens.old) result tokens.new }
     {
         if tokens.eat(Sign::BraceClose) {
             return Ok(Items::new(self.alloc));
@@ -188,7 +188,7 @@ impl<F: Fn(Global, &mut Tokens<'_>, usize, bool) -> Result<Expr, ParseFault>> Gr
         sign: Sign,
     ) -> Result<Expr, ParseFault>
         requires { Nests self.now.room (F.pre self.now.nested) (F.post self.now.nested) }
-        ensures { Reads (spec.bracketed (spec.nested self.now.room) place sign tokens.old)
+        ensures { ReadsByRule (spec.bracketed (spec.nested self.now.room) place sign tokens.old)
             result tokens.new }
     {
         match sign {
@@ -212,7 +212,7 @@ impl<F: Fn(Global, &mut Tokens<'_>, usize, bool) -> Result<Expr, ParseFault>> Gr
     #[tactic(auto, unfolding(crate::specs::Expressions::primary))]
     fn primary(&self, tokens: &mut Tokens<'_>) -> Result<Expr, ParseFault>
         requires { Nests self.now.room (F.pre self.now.nested) (F.post self.now.nested) }
-        ensures { Reads (spec.primary (spec.nested self.now.room) tokens.old) result tokens.new }
+        ensures { ReadsByRule (spec.primary (spec.nested self.now.room) tokens.old) result tokens.new }
     {
         let place = tokens.place();
         match tokens.kind() {
@@ -236,10 +236,10 @@ impl<F: Fn(Global, &mut Tokens<'_>, usize, bool) -> Result<Expr, ParseFault>> Gr
         }
     }
 
-    #[tactic(auto, unfolding(crate::specs::Expressions::suffix))]
+    #[tactic(auto, unfolding(crate::specs::Expressions::suffix_rule))]
     fn suffix(&self, tokens: &mut Tokens<'_>) -> Result<Suffix, ParseFault>
         requires { Nests self.now.room (F.pre self.now.nested) (F.post self.now.nested) }
-        ensures { Reads (spec.suffix (spec.nested self.now.room) tokens.old) result tokens.new }
+        ensures { ReadsByRule (spec.suffix_rule (spec.nested self.now.room) tokens.old) result tokens.new }
     {
         if tokens.eat(Sign::Dot) {
             return Ok(Suffix::Member(tokens.name(self.alloc)?));
@@ -256,7 +256,7 @@ impl<F: Fn(Global, &mut Tokens<'_>, usize, bool) -> Result<Expr, ParseFault>> Gr
     /// The suffixes that come next.
     fn suffixes(&self, tokens: &mut Tokens<'_>) -> Result<Items<Suffix>, ParseFault>
         requires { Nests self.now.room (F.pre self.now.nested) (F.post self.now.nested) }
-        ensures { Reads (spec.all_suffixes (spec.nested self.now.room) tokens.old)
+        ensures { ReadsByRule (spec.all_suffixes (spec.nested self.now.room) tokens.old)
             result tokens.new }
     {
         let mut found = Items::new(self.alloc);
@@ -269,10 +269,10 @@ impl<F: Fn(Global, &mut Tokens<'_>, usize, bool) -> Result<Expr, ParseFault>> Gr
         Err(tokens.refuse())
     }
 
-    #[tactic(auto, unfolding(crate::specs::Expressions::postfix))]
+    #[tactic(auto, unfolding(crate::specs::Expressions::postfix_rule))]
     fn postfix(&self, tokens: &mut Tokens<'_>) -> Result<Expr, ParseFault>
         requires { Nests self.now.room (F.pre self.now.nested) (F.post self.now.nested) }
-        ensures { Reads (spec.postfix (spec.nested self.now.room) tokens.old) result tokens.new }
+        ensures { ReadsByRule (spec.postfix_rule (spec.nested self.now.room) tokens.old) result tokens.new }
     {
         let first = self.primary(tokens)?;
         let found = match self.suffixes(tokens) {
@@ -292,7 +292,7 @@ impl<F: Fn(Global, &mut Tokens<'_>, usize, bool) -> Result<Expr, ParseFault>> Gr
         op: Prefix,
     ) -> Result<Expr, ParseFault>
         requires { Nests self.now.room (F.pre self.now.nested) (F.post self.now.nested) }
-        ensures { Reads (spec.prefixed_in self.now.room place op tokens.old) result tokens.new }
+        ensures { ReadsByRule (spec.prefixed_in self.now.room place op tokens.old) result tokens.new }
     {
         if self.room == 0 {
             return Err(tokens.too_deep());
@@ -305,7 +305,7 @@ impl<F: Fn(Global, &mut Tokens<'_>, usize, bool) -> Result<Expr, ParseFault>> Gr
     #[tactic(auto, unfolding(crate::specs::Expressions::unary))]
     fn unary(&self, tokens: &mut Tokens<'_>) -> Result<Expr, ParseFault>
         requires { Nests self.now.room (F.pre self.now.nested) (F.post self.now.nested) }
-        ensures { Reads (spec.unary_in self.now.room tokens.old) result tokens.new }
+        ensures { ReadsByRule (spec.unary_in self.now.room tokens.old) result tokens.new }
     {
         let place = tokens.place();
         match prefix(tokens.kind()) {
@@ -323,7 +323,7 @@ impl<F: Fn(Global, &mut Tokens<'_>, usize, bool) -> Result<Expr, ParseFault>> Gr
     ) -> Result<Items<(Operator, Expr)>, ParseFault>
         requires nests { Nests self.now.room (F.pre self.now.nested) (F.post self.now.nested) }
         requires some { 1 ≤ level }
-        ensures { Reads (spec.tails_in self.now.room level tokens.old) result tokens.new }
+        ensures { ReadsByRule (spec.tails_in self.now.room level tokens.old) result tokens.new }
     {
         let mut found = Items::new(self.alloc);
         for _turn in 0..tokens.turns() {
@@ -341,7 +341,7 @@ impl<F: Fn(Global, &mut Tokens<'_>, usize, bool) -> Result<Expr, ParseFault>> Gr
     #[cycle(chain)]
     fn chain(&self, tokens: &mut Tokens<'_>, level: u8) -> Result<Expr, ParseFault>
         requires { Nests self.now.room (F.pre self.now.nested) (F.post self.now.nested) }
-        ensures { Reads (spec.chain_in self.now.room level tokens.old) result tokens.new }
+        ensures { ReadsByRule (spec.chain_in self.now.room level tokens.old) result tokens.new }
     {
         if level == 0 {
             return self.unary(tokens);
@@ -357,10 +357,10 @@ impl<F: Fn(Global, &mut Tokens<'_>, usize, bool) -> Result<Expr, ParseFault>> Gr
         Ok(chained(self.alloc, first, found)?)
     }
 
-    #[tactic(auto, unfolding(crate::specs::Expressions::choice))]
+    #[tactic(auto, unfolding(crate::specs::Expressions::choice_rule))]
     fn choice(&self, tokens: &mut Tokens<'_>) -> Result<Expr, ParseFault>
         requires { Nests self.now.room (F.pre self.now.nested) (F.post self.now.nested) }
-        ensures { Reads (spec.choice_in self.now.room tokens.old) result tokens.new }
+        ensures { ReadsByRule (spec.choice_in self.now.room tokens.old) result tokens.new }
     {
         let condition = self.chain(tokens, 6)?;
         if !tokens.eat(Sign::Question) {
@@ -373,10 +373,10 @@ impl<F: Fn(Global, &mut Tokens<'_>, usize, bool) -> Result<Expr, ParseFault>> Gr
         Ok(Expr::Choice(condition, yes, no))
     }
 
-    #[tactic(auto, unfolding(crate::specs::Expressions::opened))]
+    #[tactic(auto, unfolding(crate::specs::Expressions::expr_or_operand))]
     fn opened(&self, tokens: &mut Tokens<'_>, is_operand: bool) -> Result<Expr, ParseFault>
         requires { Nests self.now.room (F.pre self.now.nested) (F.post self.now.nested) }
-        ensures { Reads (spec.opened_in self.now.room is_operand tokens.old) result tokens.new }
+        ensures { ReadsByRule (spec.expr_or_operand_in self.now.room is_operand tokens.old) result tokens.new }
     {
         if is_operand {
             self.unary(tokens)
@@ -393,7 +393,7 @@ pub(crate) fn nested(
     room: usize,
     is_operand: bool,
 ) -> Result<Expr, ParseFault>
-    ensures { Reads (spec.nested room is_operand tokens.old) result tokens.new }
+    ensures { ReadsByRule (spec.nested room is_operand tokens.old) result tokens.new }
 {
     if room == 0 {
         return Err(tokens.too_deep());

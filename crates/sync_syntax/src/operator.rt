@@ -68,9 +68,9 @@ pub(crate) fn operator_at(level: u8, kind: &Kind) -> Option<Operator>
 }
 
 /// The operator before an operand that a token is.
-#[tactic(auto, unfolding(crate::specs::Operators::prefix))]
+#[tactic(auto, unfolding(crate::specs::Operators::prefix_by))]
 pub(crate) fn prefix(kind: &Kind) -> Option<Prefix>
-    ensures { result ≡ spec.prefix kind.now }
+    ensures { result ≡ spec.prefix_by kind.now }
 {
     match kind {
         Kind::Sign(Sign::Not) => Some(Prefix::Not),
@@ -117,7 +117,7 @@ pub(crate) fn writing_by(kind: &Kind) -> Option<Writing>
 }
 
 pub(crate) fn is_name(kind: &Kind) -> bool
-    ensures { result ≡ spec.is_name kind.now }
+    ensures { result ≡ spec.is_name_kind kind.now }
 {
     matches!(kind, Kind::Name(_))
 }

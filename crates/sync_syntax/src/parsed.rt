@@ -9,7 +9,7 @@ ghost use Rattle.sync_syntax.specs.Faults.{IsFaultOf};
 ghost use Rattle.sync_syntax.specs.Grammar.{IsProgram};
 ghost use Rattle.sync_syntax.specs.Laws.{max_depth};
 ghost use Rattle.sync_syntax.specs.Statements as spec;
-ghost use Rattle.sync_syntax.specs.Statements.{Gives, max_len};
+ghost use Rattle.sync_syntax.specs.Statements.{GivesParsed, max_len};
 ghost use Rattle.sync_syntax.specs.Texts.{HasText};
 
 use crate::fault::ParseFault;
@@ -54,12 +54,12 @@ impl Program {
 /// in the place of any answer.
 pub fn parse(alloc: Global, text: &str) -> Result<Program, ParseFault>
     // It is the program, or the first fault, that reading by the rules gives.
-    ensures exact { Gives (spec.parsed text.now) result }
+    ensures exact { GivesParsed (spec.parsed text.now) result }
     // What is read is a program by the grammar.
     ensures grammar { IfOk result (λ program. IsProgram (tokens_of text.now) program) }
     // A program by the grammar is read, where the text is not too long and not too much is open.
     ensures complete { (p : Program) (d : IsProgram (tokens_of text.now) p)
-        → length text.now ≤ max_len → depth d ≤ max_depth → Gives (Ok p) result }
+        → length text.now ≤ max_len → depth d ≤ max_depth → GivesParsed (Ok p) result }
     // A fault of a text that is not too long stands at the first token at fault: some program begins
     // with the tokens before it, and none with it, where it fits no rule.
     ensures fault { IfErr result (λ e. e ≢ Memory → length text.now ≤ max_len

@@ -6,9 +6,9 @@ ghost use Rattle.sync_syntax.specs.Depth.{depth};
 ghost use Rattle.sync_syntax.specs.Faults.{IsFaultOf};
 ghost use Rattle.sync_syntax.specs.Grammar.{IsProgram};
 ghost use Rattle.sync_syntax.specs.Laws.{max_depth};
-ghost use Rattle.sync_syntax.specs.Reading.{Reads};
+ghost use Rattle.sync_syntax.specs.Reading.{ReadsByRule};
 ghost use Rattle.sync_syntax.specs.Statements as spec;
-ghost use Rattle.sync_syntax.specs.Statements.{Gives, max_len};
+ghost use Rattle.sync_syntax.specs.Statements.{GivesParsed, max_len};
 
 use crate::behind::closed;
 use crate::cursor::Tokens;
@@ -30,7 +30,7 @@ const BODY_ROOM: usize = 99;
 
 #[tactic(auto, unfolding(crate::specs::Statements::own_name))]
 fn own_name(alloc: Global, tokens: &mut Tokens<'_>) -> Result<Option<DocText>, ParseFault>
-    ensures { Reads (spec.own_name tokens.old) result tokens.new }
+    ensures { ReadsByRule (spec.own_name tokens.old) result tokens.new }
 {
     match tokens.kind() {
         Kind::Name(_) => Ok(Some(tokens.name(alloc)?)),
@@ -40,7 +40,7 @@ fn own_name(alloc: Global, tokens: &mut Tokens<'_>) -> Result<Option<DocText>, P
 
 #[tactic(auto, unfolding(crate::specs::Statements::second_parameter))]
 fn second_parameter(alloc: Global, tokens: &mut Tokens<'_>) -> Result<Option<Named>, ParseFault>
-    ensures { Reads (spec.second_parameter tokens.old) result tokens.new }
+    ensures { ReadsByRule (spec.second_parameter tokens.old) result tokens.new }
 {
     if !tokens.eat(Sign::Comma) {
         return Ok(None);
@@ -53,7 +53,7 @@ type Head = (Option<DocText>, Named, Option<Named>);
 
 #[tactic(auto, unfolding(crate::specs::Statements::head))]
 fn head(alloc: Global, tokens: &mut Tokens<'_>) -> Result<Head, ParseFault>
-    ensures { Reads (spec.head tokens.old) result tokens.new }
+    ensures { ReadsByRule (spec.head tokens.old) result tokens.new }
 {
     tokens.expect_word(Word::Function)?;
     let name = own_name(alloc, tokens)?;
@@ -64,9 +64,9 @@ fn head(alloc: Global, tokens: &mut Tokens<'_>) -> Result<Head, ParseFault>
 }
 
 /// The body, and the end of the text behind it.
-#[tactic(auto, unfolding(crate::specs::Statements::body))]
+#[tactic(auto, unfolding(crate::specs::Statements::function_body))]
 fn body(alloc: Global, tokens: &mut Tokens<'_>) -> Result<Items<Statement>, ParseFault>
-    ensures { Reads (spec.body tokens.old) result tokens.new }
+    ensures { ReadsByRule (spec.function_body tokens.old) result tokens.new }
 {
     tokens.expect(Sign::BraceOpen)?;
     let found = Statements {
@@ -82,7 +82,7 @@ fn body(alloc: Global, tokens: &mut Tokens<'_>) -> Result<Items<Statement>, Pars
 
 #[tactic(auto, unfolding(crate::specs::Statements::end))]
 fn end(tokens: &mut Tokens<'_>) -> Result<(), ParseFault>
-    ensures { Reads (spec.end tokens.old) result tokens.new }
+    ensures { ReadsByRule (spec.end tokens.old) result tokens.new }
 {
     match tokens.kind() {
         Kind::End => Ok(()),
@@ -92,7 +92,7 @@ fn end(tokens: &mut Tokens<'_>) -> Result<(), ParseFault>
 
 #[tactic(auto, unfolding(crate::specs::Statements::program))]
 fn program(alloc: Global, tokens: &mut Tokens<'_>) -> Result<Program, ParseFault>
-    ensures { Reads (spec.program tokens.old) result tokens.new }
+    ensures { ReadsByRule (spec.program tokens.old) result tokens.new }
 {
     let head = head(alloc, tokens)?;
     let place = tokens.place();
@@ -115,7 +115,7 @@ fn program(alloc: Global, tokens: &mut Tokens<'_>) -> Result<Program, ParseFault
 
 /// The program that all of these tokens are.
 fn whole(alloc: Global, all: &[Token]) -> Result<Program, ParseFault>
-    ensures { Gives (spec.only (spec.program all.now)) result }
+    ensures { GivesParsed (spec.whole_program (spec.program all.now)) result }
 {
     match Tokens::new(all) {
         Some(mut tokens) => program(alloc, &mut tokens),
@@ -128,7 +128,7 @@ fn whole(alloc: Global, all: &[Token]) -> Result<Program, ParseFault>
 
 /// The same, which is a program by the grammar.
 fn lawful(alloc: Global, all: &[Token]) -> Result<Program, ParseFault>
-    ensures exact { Gives (spec.only (spec.program all.now)) result }
+    ensures exact { GivesParsed (spec.whole_program (spec.program all.now)) result }
     ensures grammar { IfOk result (λ program. IsProgram all.now program) }
 {
     whole(alloc, all)
@@ -137,11 +137,11 @@ fn lawful(alloc: Global, all: &[Token]) -> Result<Program, ParseFault>
 /// The tree of the program that a text is.
 #[tactic(auto, unfolding(crate::specs::Statements::parsed))]
 pub(crate) fn tree_of(alloc: Global, text: &str) -> Result<Program, ParseFault>
-    ensures exact { Gives (spec.parsed text.now) result }
+    ensures exact { GivesParsed (spec.parsed text.now) result }
     ensures short { IfOk result (λ _. length text.now ≤ max_len) }
     ensures grammar { IfOk result (λ program. IsProgram (tokens_of text.now) program) }
     ensures complete { (p : Program) (d : IsProgram (tokens_of text.now) p)
-        → length text.now ≤ max_len → depth d ≤ max_depth → Gives (Ok p) result }
+        → length text.now ≤ max_len → depth d ≤ max_depth → GivesParsed (Ok p) result }
     ensures fault { IfErr result (λ e. e ≢ Memory → length text.now ≤ max_len
         → IsFaultOf (tokens_of text.now) e) }
 {

@@ -1,7 +1,7 @@
 //! The statements that hold no others, each rule by its own function.
 
 ghost use Rattle.std.specs.Prelude.{◌≡◌, ◌∷◌, ◌++◌};
-ghost use Rattle.sync_syntax.specs.Reading.{Reads};
+ghost use Rattle.sync_syntax.specs.Reading.{ReadsByRule};
 ghost use Rattle.sync_syntax.specs.Statements as spec;
 
 use crate::behind::ended;
@@ -15,9 +15,9 @@ use std::alloc::Global;
 use sync_tokens::{Place, Sign};
 
 /// A name with its place.
-#[tactic(auto, unfolding(crate::specs::Statements::named))]
+#[tactic(auto, unfolding(crate::specs::Statements::named_rule))]
 pub(crate) fn named(alloc: Global, tokens: &mut Tokens<'_>) -> Result<Named, ParseFault>
-    ensures { Reads (spec.named tokens.old) result tokens.new }
+    ensures { ReadsByRule (spec.named_rule tokens.old) result tokens.new }
 {
     let place = tokens.place();
     let name = tokens.name(alloc)?;
@@ -25,9 +25,9 @@ pub(crate) fn named(alloc: Global, tokens: &mut Tokens<'_>) -> Result<Named, Par
 }
 
 /// A `;`, which may be absent directly before a `}`.
-#[tactic(auto, unfolding(crate::specs::Statements::ending))]
+#[tactic(auto, unfolding(crate::specs::Statements::statement_end))]
 pub(crate) fn ending(tokens: &mut Tokens<'_>) -> Result<(), ParseFault>
-    ensures { Reads (spec.ending tokens.old) result tokens.new }
+    ensures { ReadsByRule (spec.statement_end tokens.old) result tokens.new }
 {
     if tokens.sees(Sign::BraceClose) {
         return Ok(());
@@ -36,9 +36,9 @@ pub(crate) fn ending(tokens: &mut Tokens<'_>) -> Result<(), ParseFault>
 }
 
 /// `break` or `continue`, which stand in a loop.
-#[tactic(auto, unfolding(crate::specs::Statements::jump))]
+#[tactic(auto, unfolding(crate::specs::Statements::jump_rule))]
 pub(crate) fn jump(tokens: &mut Tokens<'_>, in_loop: bool) -> Result<(), ParseFault>
-    ensures { Reads (spec.jump in_loop tokens.old) result tokens.new }
+    ensures { ReadsByRule (spec.jump_rule in_loop tokens.old) result tokens.new }
 {
     if !in_loop {
         return Err(tokens.refuse());
@@ -57,14 +57,14 @@ pub(crate) struct Parts {
 
 impl Parts {
     pub fn expr(&self, tokens: &mut Tokens<'_>) -> Result<Expr, ParseFault>
-        ensures { Reads (spec.expr self.now.room tokens.old) result tokens.new }
+        ensures { ReadsByRule (spec.expr self.now.room tokens.old) result tokens.new }
     {
         nested(self.alloc, tokens, self.room, false)
     }
 
     /// The same, in a block of its own.
     pub fn boxed_expr(&self, tokens: &mut Tokens<'_>) -> Result<Boxed<Expr>, ParseFault>
-        ensures { Reads (spec.expr self.now.room tokens.old) result tokens.new }
+        ensures { ReadsByRule (spec.expr self.now.room tokens.old) result tokens.new }
     {
         let found = self.expr(tokens)?;
         Ok(Boxed::new(self.alloc, found)?)
@@ -73,7 +73,7 @@ impl Parts {
     /// The value that a variable is declared with, if it is.
     #[tactic(auto, unfolding(crate::specs::Statements::given))]
     fn given(&self, tokens: &mut Tokens<'_>) -> Result<Option<Boxed<Expr>>, ParseFault>
-        ensures { Reads (spec.given self.now.room tokens.old) result tokens.new }
+        ensures { ReadsByRule (spec.given self.now.room tokens.old) result tokens.new }
     {
         if !tokens.eat(Sign::Assign) {
             return Ok(None);
@@ -81,9 +81,9 @@ impl Parts {
         Ok(Some(self.boxed_expr(tokens)?))
     }
 
-    #[tactic(auto, unfolding(crate::specs::Statements::declared))]
+    #[tactic(auto, unfolding(crate::specs::Statements::declared_rule))]
     fn declared(&self, tokens: &mut Tokens<'_>) -> Result<(Named, Option<Boxed<Expr>>), ParseFault>
-        ensures { Reads (spec.declared self.now.room tokens.old) result tokens.new }
+        ensures { ReadsByRule (spec.declared_rule self.now.room tokens.old) result tokens.new }
     {
         let name = named(self.alloc, tokens)?;
         let value = self.given(tokens)?;
@@ -94,7 +94,7 @@ impl Parts {
         &self,
         tokens: &mut Tokens<'_>,
     ) -> Result<Items<(Named, Option<Boxed<Expr>>)>, ParseFault>
-        ensures { Reads (spec.more_declared self.now.room tokens.old) result tokens.new }
+        ensures { ReadsByRule (spec.more_declared self.now.room tokens.old) result tokens.new }
     {
         let mut found = Items::new(self.alloc);
         for _turn in 0..tokens.turns() {
@@ -115,7 +115,7 @@ impl Parts {
         declares: Declares,
         first: Named,
     ) -> Result<Declaration, ParseFault>
-        ensures { Reads (spec.declaration self.now.room place declares first tokens.old)
+        ensures { ReadsByRule (spec.declaration self.now.room place declares first tokens.old)
             result tokens.new }
     {
         let value = self.given(tokens)?;
@@ -137,7 +137,7 @@ impl Parts {
         writing: Writing,
         name: Named,
     ) -> Result<Simple, ParseFault>
-        ensures { Reads (spec.written self.now.room writing name tokens.old) result tokens.new }
+        ensures { ReadsByRule (spec.written_rule self.now.room writing name tokens.old) result tokens.new }
     {
         match writing {
             Writing::Sets(how) => {
@@ -151,16 +151,16 @@ impl Parts {
 
     #[tactic(auto, unfolding(crate::specs::Statements::write))]
     fn write(&self, tokens: &mut Tokens<'_>, writing: Writing) -> Result<Simple, ParseFault>
-        ensures { Reads (spec.write self.now.room writing tokens.old) result tokens.new }
+        ensures { ReadsByRule (spec.write self.now.room writing tokens.old) result tokens.new }
     {
         let name = named(self.alloc, tokens)?;
         tokens.take();
         self.written(tokens, writing, name)
     }
 
-    #[tactic(auto, unfolding(crate::specs::Statements::value))]
+    #[tactic(auto, unfolding(crate::specs::Statements::value_rule))]
     fn value(&self, tokens: &mut Tokens<'_>) -> Result<Simple, ParseFault>
-        ensures { Reads (spec.value self.now.room tokens.old) result tokens.new }
+        ensures { ReadsByRule (spec.value_rule self.now.room tokens.old) result tokens.new }
     {
         let place = tokens.place();
         Ok(Simple::Value(place, self.expr(tokens)?))
@@ -171,7 +171,7 @@ impl Parts {
         tokens: &mut Tokens<'_>,
         writing: Option<Writing>,
     ) -> Result<Simple, ParseFault>
-        ensures { Reads (spec.write_or_value self.now.room writing tokens.old) result tokens.new }
+        ensures { ReadsByRule (spec.write_or_value self.now.room writing tokens.old) result tokens.new }
     {
         match writing {
             Some(how) => self.write(tokens, how),
@@ -179,9 +179,9 @@ impl Parts {
         }
     }
 
-    #[tactic(auto, unfolding(crate::specs::Statements::simple))]
+    #[tactic(auto, unfolding(crate::specs::Statements::simple_rule))]
     pub fn simple(&self, tokens: &mut Tokens<'_>) -> Result<Simple, ParseFault>
-        ensures { Reads (spec.simple self.now.room tokens.old) result tokens.new }
+        ensures { ReadsByRule (spec.simple_rule self.now.room tokens.old) result tokens.new }
     {
         if is_name(tokens.kind()) {
             self.write_or_value(tokens, writing_by(tokens.second()))
@@ -197,7 +197,7 @@ impl Parts {
         tokens: &mut Tokens<'_>,
         close: Sign,
     ) -> Result<Option<Boxed<Expr>>, ParseFault>
-        ensures { Reads (spec.expr_unless self.now.room close tokens.old) result tokens.new }
+        ensures { ReadsByRule (spec.expr_unless self.now.room close tokens.old) result tokens.new }
     {
         if tokens.sees(close) {
             return Ok(None);
@@ -211,7 +211,7 @@ impl Parts {
         tokens: &mut Tokens<'_>,
         close: Sign,
     ) -> Result<Option<Boxed<Simple>>, ParseFault>
-        ensures { Reads (spec.simple_unless self.now.room close tokens.old) result tokens.new }
+        ensures { ReadsByRule (spec.simple_unless self.now.room close tokens.old) result tokens.new }
     {
         if tokens.sees(close) {
             return Ok(None);
@@ -220,9 +220,9 @@ impl Parts {
         Ok(Some(Boxed::new(self.alloc, found)?))
     }
 
-    #[tactic(auto, unfolding(crate::specs::Statements::returned))]
+    #[tactic(auto, unfolding(crate::specs::Statements::returned_rule))]
     fn returned(&self, tokens: &mut Tokens<'_>) -> Result<Option<Boxed<Expr>>, ParseFault>
-        ensures { Reads (spec.returned self.now.room tokens.old) result tokens.new }
+        ensures { ReadsByRule (spec.returned_rule self.now.room tokens.old) result tokens.new }
     {
         if tokens.sees(Sign::BraceClose) {
             return Ok(None);
@@ -232,30 +232,30 @@ impl Parts {
 
     #[tactic(auto, unfolding(crate::specs::Statements::return_at))]
     pub fn return_at(&self, tokens: &mut Tokens<'_>, place: Place) -> Result<Statement, ParseFault>
-        ensures { Reads (spec.return_at self.now.room place tokens.old) result tokens.new }
+        ensures { ReadsByRule (spec.return_at self.now.room place tokens.old) result tokens.new }
     {
         tokens.take();
         let found = self.returned(tokens)?;
         ended(tokens, Statement::Return(place, found))
     }
 
-    #[tactic(auto, unfolding(crate::specs::Statements::throw))]
+    #[tactic(auto, unfolding(crate::specs::Statements::throw_rule))]
     pub fn throw(&self, tokens: &mut Tokens<'_>, place: Place) -> Result<Statement, ParseFault>
-        ensures { Reads (spec.throw self.now.room place tokens.old) result tokens.new }
+        ensures { ReadsByRule (spec.throw_rule self.now.room place tokens.old) result tokens.new }
     {
         tokens.take();
         let found = self.expr(tokens)?;
         ended(tokens, Statement::Throw(place, found))
     }
 
-    #[tactic(auto, unfolding(crate::specs::Statements::declare))]
+    #[tactic(auto, unfolding(crate::specs::Statements::declare_rule))]
     fn declare(
         &self,
         tokens: &mut Tokens<'_>,
         place: Place,
         declares: Declares,
     ) -> Result<Statement, ParseFault>
-        ensures { Reads (spec.declare self.now.room place declares tokens.old) result tokens.new }
+        ensures { ReadsByRule (spec.declare_rule self.now.room place declares tokens.old) result tokens.new }
     {
         tokens.take();
         let first = named(self.alloc, tokens)?;
@@ -265,16 +265,16 @@ impl Parts {
 
     #[tactic(auto, unfolding(crate::specs::Statements::only_simple))]
     fn only_simple(&self, tokens: &mut Tokens<'_>) -> Result<Statement, ParseFault>
-        ensures { Reads (spec.only_simple self.now.room tokens.old) result tokens.new }
+        ensures { ReadsByRule (spec.only_simple self.now.room tokens.old) result tokens.new }
     {
         let found = self.simple(tokens)?;
         ended(tokens, Statement::Simple(found))
     }
 
     /// A declaration, or another statement that no word begins.
-    #[tactic(auto, unfolding(crate::specs::Statements::plain))]
+    #[tactic(auto, unfolding(crate::specs::Statements::plain_rule))]
     pub fn plain(&self, tokens: &mut Tokens<'_>, place: Place) -> Result<Statement, ParseFault>
-        ensures { Reads (spec.plain self.now.room place tokens.old) result tokens.new }
+        ensures { ReadsByRule (spec.plain_rule self.now.room place tokens.old) result tokens.new }
     {
         match declares_by(tokens.kind()) {
             Some(declares) => self.declare(tokens, place, declares),

@@ -2,7 +2,7 @@
 //! inside as a parameter, so that each is proved by itself.
 
 ghost use Rattle.std.specs.Prelude.{◌≡◌};
-ghost use Rattle.sync_syntax.specs.Reading.{Reads};
+ghost use Rattle.sync_syntax.specs.Reading.{ReadsByRule};
 ghost use Rattle.sync_syntax.specs.Statements as spec;
 ghost use Rattle.sync_syntax.specs.inner.Nests.{NestsStatement};
 ghost use Rattle.sync_syntax.specs.inner.Tails.{chosen};
@@ -30,7 +30,7 @@ pub(crate) struct Statements<F> {
 impl<F: Fn(Global, &mut Tokens<'_>, usize, bool) -> Result<Statement, ParseFault>> Statements<F> {
     fn inner(&self, tokens: &mut Tokens<'_>, in_loop: bool) -> Result<Statement, ParseFault>
         requires { NestsStatement self.now.room (F.pre self.now.inner) (F.post self.now.inner) }
-        ensures { Reads (spec.statement self.now.room in_loop tokens.old) result tokens.new }
+        ensures { ReadsByRule (spec.statement self.now.room in_loop tokens.old) result tokens.new }
     {
         (self.inner)(self.alloc, tokens, self.room, in_loop)
     }
@@ -38,7 +38,7 @@ impl<F: Fn(Global, &mut Tokens<'_>, usize, bool) -> Result<Statement, ParseFault
     /// The same, in a block of its own.
     fn boxed(&self, tokens: &mut Tokens<'_>, in_loop: bool) -> Result<Boxed<Statement>, ParseFault>
         requires { NestsStatement self.now.room (F.pre self.now.inner) (F.post self.now.inner) }
-        ensures { Reads (spec.statement self.now.room in_loop tokens.old) result tokens.new }
+        ensures { ReadsByRule (spec.statement self.now.room in_loop tokens.old) result tokens.new }
     {
         let found = self.inner(tokens, in_loop)?;
         Ok(Boxed::new(self.alloc, found)?)
@@ -60,7 +60,7 @@ impl<F: Fn(Global, &mut Tokens<'_>, usize, bool) -> Result<Statement, ParseFault
         in_loop: bool,
     ) -> Result<Items<Statement>, ParseFault>
         requires { NestsStatement self.now.room (F.pre self.now.inner) (F.post self.now.inner) }
-        ensures { Reads (spec.block_in self.now.room in_loop tokens.old) result tokens.new }
+        ensures { ReadsByRule (spec.block_in self.now.room in_loop tokens.old) result tokens.new }
     {
         let mut found = Items::new(self.alloc);
         for _turn in 0..tokens.turns() {
@@ -73,14 +73,14 @@ impl<F: Fn(Global, &mut Tokens<'_>, usize, bool) -> Result<Statement, ParseFault
     }
 
     /// An `else` and its statement, if it comes next.
-    #[tactic(auto, unfolding(crate::specs::Statements::otherwise))]
+    #[tactic(auto, unfolding(crate::specs::Statements::else_rule))]
     fn otherwise(
         &self,
         tokens: &mut Tokens<'_>,
         in_loop: bool,
     ) -> Result<Option<Boxed<Statement>>, ParseFault>
         requires { NestsStatement self.now.room (F.pre self.now.inner) (F.post self.now.inner) }
-        ensures { Reads (spec.otherwise_in self.now.room in_loop tokens.old) result tokens.new }
+        ensures { ReadsByRule (spec.else_rule_in self.now.room in_loop tokens.old) result tokens.new }
     {
         if !tokens.eat_word(Word::Else) {
             return Ok(None);
@@ -97,7 +97,7 @@ impl<F: Fn(Global, &mut Tokens<'_>, usize, bool) -> Result<Statement, ParseFault
         condition: Boxed<Expr>,
     ) -> Result<Statement, ParseFault>
         requires { NestsStatement self.now.room (F.pre self.now.inner) (F.post self.now.inner) }
-        ensures { Reads (chosen self.now.room place in_loop condition tokens.old) result
+        ensures { ReadsByRule (chosen self.now.room place in_loop condition tokens.old) result
             tokens.new }
     {
         tokens.expect(Sign::ParenClose)?;
@@ -106,7 +106,7 @@ impl<F: Fn(Global, &mut Tokens<'_>, usize, bool) -> Result<Statement, ParseFault
         Ok(Statement::If(place, condition, first, other))
     }
 
-    #[tactic(auto, unfolding(crate::specs::Statements::choose))]
+    #[tactic(auto, unfolding(crate::specs::Statements::if_rule))]
     fn choose(
         &self,
         tokens: &mut Tokens<'_>,
@@ -114,7 +114,7 @@ impl<F: Fn(Global, &mut Tokens<'_>, usize, bool) -> Result<Statement, ParseFault
         in_loop: bool,
     ) -> Result<Statement, ParseFault>
         requires { NestsStatement self.now.room (F.pre self.now.inner) (F.post self.now.inner) }
-        ensures { Reads (spec.choose_in self.now.room place in_loop tokens.old) result tokens.new }
+        ensures { ReadsByRule (spec.if_rule_in self.now.room place in_loop tokens.old) result tokens.new }
     {
         tokens.take();
         tokens.expect(Sign::ParenOpen)?;
@@ -131,7 +131,7 @@ impl<F: Fn(Global, &mut Tokens<'_>, usize, bool) -> Result<Statement, ParseFault
         start: Option<Boxed<Start>>,
     ) -> Result<Statement, ParseFault>
         requires { NestsStatement self.now.room (F.pre self.now.inner) (F.post self.now.inner) }
-        ensures { Reads (spec.repeat_in self.now.room place start tokens.old) result tokens.new }
+        ensures { ReadsByRule (spec.repeat_in self.now.room place start tokens.old) result tokens.new }
     {
         tokens.expect(Sign::Semicolon)?;
         let condition = self.parts().expr_unless(tokens, Sign::Semicolon)?;
@@ -143,7 +143,7 @@ impl<F: Fn(Global, &mut Tokens<'_>, usize, bool) -> Result<Statement, ParseFault
     }
 
     /// A `for` behind `of`.
-    #[tactic(auto, unfolding(crate::specs::Statements::each))]
+    #[tactic(auto, unfolding(crate::specs::Statements::each_rule))]
     fn each(
         &self,
         tokens: &mut Tokens<'_>,
@@ -152,7 +152,7 @@ impl<F: Fn(Global, &mut Tokens<'_>, usize, bool) -> Result<Statement, ParseFault
         name: Named,
     ) -> Result<Statement, ParseFault>
         requires { NestsStatement self.now.room (F.pre self.now.inner) (F.post self.now.inner) }
-        ensures { Reads (spec.each_in self.now.room place declares name tokens.old)
+        ensures { ReadsByRule (spec.each_in self.now.room place declares name tokens.old)
             result tokens.new }
     {
         let items = self.parts().boxed_expr(tokens)?;
@@ -169,7 +169,7 @@ impl<F: Fn(Global, &mut Tokens<'_>, usize, bool) -> Result<Statement, ParseFault
         declares: Declares,
     ) -> Result<Statement, ParseFault>
         requires { NestsStatement self.now.room (F.pre self.now.inner) (F.post self.now.inner) }
-        ensures { Reads (spec.for_declared_in self.now.room place declares tokens.old)
+        ensures { ReadsByRule (spec.for_declared_in self.now.room place declares tokens.old)
             result tokens.new }
     {
         let begin = tokens.place();
@@ -186,7 +186,7 @@ impl<F: Fn(Global, &mut Tokens<'_>, usize, bool) -> Result<Statement, ParseFault
     #[tactic(auto, unfolding(crate::specs::Statements::for_simple))]
     fn for_simple(&self, tokens: &mut Tokens<'_>, place: Place) -> Result<Statement, ParseFault>
         requires { NestsStatement self.now.room (F.pre self.now.inner) (F.post self.now.inner) }
-        ensures { Reads (spec.for_simple_in self.now.room place tokens.old) result tokens.new }
+        ensures { ReadsByRule (spec.for_simple_in self.now.room place tokens.old) result tokens.new }
     {
         if tokens.sees(Sign::Semicolon) {
             return self.repeat(tokens, place, None);
@@ -199,7 +199,7 @@ impl<F: Fn(Global, &mut Tokens<'_>, usize, bool) -> Result<Statement, ParseFault
     #[tactic(auto, unfolding(crate::specs::Statements::for_at))]
     fn for_at(&self, tokens: &mut Tokens<'_>, place: Place) -> Result<Statement, ParseFault>
         requires { NestsStatement self.now.room (F.pre self.now.inner) (F.post self.now.inner) }
-        ensures { Reads (spec.for_in self.now.room place tokens.old) result tokens.new }
+        ensures { ReadsByRule (spec.for_in self.now.room place tokens.old) result tokens.new }
     {
         tokens.take();
         tokens.expect(Sign::ParenOpen)?;
@@ -218,7 +218,7 @@ impl<F: Fn(Global, &mut Tokens<'_>, usize, bool) -> Result<Statement, ParseFault
         word: Word,
     ) -> Result<Statement, ParseFault>
         requires { NestsStatement self.now.room (F.pre self.now.inner) (F.post self.now.inner) }
-        ensures { Reads (spec.word_in self.now.room place in_loop word tokens.old)
+        ensures { ReadsByRule (spec.word_in self.now.room place in_loop word tokens.old)
             result tokens.new }
     {
         match word {
@@ -238,10 +238,10 @@ impl<F: Fn(Global, &mut Tokens<'_>, usize, bool) -> Result<Statement, ParseFault
         }
     }
 
-    #[tactic(auto, unfolding(crate::specs::Statements::opened))]
+    #[tactic(auto, unfolding(crate::specs::Statements::statement_rule))]
     fn opened(&self, tokens: &mut Tokens<'_>, in_loop: bool) -> Result<Statement, ParseFault>
         requires { NestsStatement self.now.room (F.pre self.now.inner) (F.post self.now.inner) }
-        ensures { Reads (spec.opened_in self.now.room in_loop tokens.old) result tokens.new }
+        ensures { ReadsByRule (spec.statement_rule_in self.now.room in_loop tokens.old) result tokens.new }
     {
         let place = tokens.place();
         match tokens.kind() {
@@ -267,7 +267,7 @@ pub(crate) fn statement(
     room: usize,
     in_loop: bool,
 ) -> Result<Statement, ParseFault>
-    ensures { Reads (spec.statement room in_loop tokens.old) result tokens.new }
+    ensures { ReadsByRule (spec.statement room in_loop tokens.old) result tokens.new }
 {
     if room == 0 {
         return Err(tokens.too_deep());

@@ -6,7 +6,7 @@ use Rattle.sync_tokens.specs.declared.place.Place.{Place}
 use Rattle.sync_tokens.specs.declared.token.Token.{Token}
 use Rattle.sync_tokens.specs.declared.scan.Piece.{Piece}
 use Rattle.sync_tokens.specs.declared.scan.Piece.TheVariants as pieces
-use Rattle.sync_tokens.specs.Places.{step, start, IsBefore}
+use Rattle.sync_tokens.specs.Places.{step, first_place, IsBefore}
 use Rattle.sync_tokens.specs.Scan.{piece_at, laid, tokens_from, tokens_in, tokens_of}
 use Rattle.sync_tokens.specs.Rising.{Rise, TokensRise}
 
@@ -64,4 +64,4 @@ rising p (t ∷ ts) h = h.1
 
 pub tokens_rise : TokensRise
 unfolding tokens_of
-tokens_rise text short = rising start (tokens_in (chars text)) (from_rises 0 start (chars text) (record { lines = omega (arith, short); columns = omega (arith, short) }))
+tokens_rise text short = rising first_place (tokens_in (chars text)) (from_rises 0 first_place (chars text) (record { lines = omega (arith, short); columns = omega (arith, short) }))

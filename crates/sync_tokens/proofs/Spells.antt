@@ -18,8 +18,8 @@ use Rattle.sync_tokens.specs.declared.literal.Step.TheVariants.{Goes, Gives, Clo
 use Rattle.sync_tokens.specs.declared.scan.Piece.{Piece}
 use Rattle.sync_tokens.specs.declared.scan.Piece.TheVariants as pieces
 use Rattle.sync_tokens.specs.Blanks.{is_space, comment_len}
-use Rattle.sync_tokens.specs.Literals.{max_integer, digits_len, number, has_leading_zero, plain_step, escape_step, coded, digits_step, text_step, after_step, text_from, text_at}
-use Rattle.sync_tokens.specs.Places.{step, start}
+use Rattle.sync_tokens.specs.Literals.{max_integer, digits_len, number, has_leading_zero, plain_step, escape_step, coded, digits_step, text_step, after_step, text_from, literal_at}
+use Rattle.sync_tokens.specs.Places.{step, first_place}
 use Rattle.sync_tokens.specs.Scan.{word, integer_by, integer, text_by, text, sign_by, comment_by, slash, piece_at, laid, tokens_from, tokens_in, tokens_of}
 use Rattle.sync_tokens.specs.Signs.{sign_at}
 use Rattle.sync_tokens.specs.Spellable.{is_part, AllParts, IsSpellable, IsLast, AreTokens, TextsHaveTokens}
@@ -155,7 +155,7 @@ text_by_stands None u = tt
 text_by_stands (Some found) u = u
 
 text_stands : (quote : ℕ) (cs : List ℕ) → scalars cs ≡ true → Stands (text quote cs)
-text_stands quote cs h = text_by_stands (text_at quote cs) (text_utf8 quote cs h Plain [] 0 IsUtf8-nil)
+text_stands quote cs h = text_by_stands (literal_at quote cs) (text_utf8 quote cs h Plain [] 0 IsUtf8-nil)
 
 -- ---- comments and signs
 
@@ -205,7 +205,7 @@ from_tokens zero p (c ∷ cs) h =
 
 pub texts_have_tokens : TextsHaveTokens
 unfolding tokens_of
-texts_have_tokens bytes u = from_tokens 0 start (chars bytes) (scalars-chars bytes u)
+texts_have_tokens bytes u = from_tokens 0 first_place (chars bytes) (scalars-chars bytes u)
 
 -- what holds of each value that is had, where another thing does
 pub if_ok_also : {A E : Type 0} (r : Result A E) (P Q : A → Type 0) → IfOk r P → ((a : A) → P a → Q a) → IfOk r Q

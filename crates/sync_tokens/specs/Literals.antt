@@ -79,5 +79,5 @@ text_from quote inside text count (c ∷ cs) =
     after_step (text_step quote inside c) text count (λ next longer. text_from quote next longer (count + 1) cs)
 
 -- what a text behind its opening quote stands for, and how many characters it has with the quote that closes it
-abbrev pub text_at : ℕ → List ℕ → Option (List ℕ × ℕ)
-text_at quote = text_from quote Plain [] 0
+abbrev pub literal_at : ℕ → List ℕ → Option (List ℕ × ℕ)
+literal_at quote = text_from quote Plain [] 0

@@ -3,16 +3,16 @@ use Rattle.std.specs.Prelude.{◌≡◌, ◌⊎◌, ℕ, ◌+◌, ◌-◌, ◌^�
 use Rattle.sync_tokens.specs.declared.place.Place.{Place}
 
 -- the next number, as far as 32 bits go
-abbrev pub next : ℕ → ℕ
-next n = min (n + 1) (2 ^ 32 - 1)
+abbrev pub next_number : ℕ → ℕ
+next_number n = min (n + 1) (2 ^ 32 - 1)
 
 -- the place after a character: a line feed ends its line
 abbrev pub step : Place → ℕ → Place
-step p c = if c == 10 then record { line = next p.line; column = 1 } else record { line = p.line; column = next p.column }
+step p c = if c == 10 then record { line = next_number p.line; column = 1 } else record { line = p.line; column = next_number p.column }
 
 -- the place of a text's first character
-abbrev pub start : Place
-start = record { line = 1; column = 1 }
+abbrev pub first_place : Place
+first_place = record { line = 1; column = 1 }
 
 -- one place stands before another: in an earlier line, or further left in the same
 abbrev pub IsBefore : Place → Place → Type 0

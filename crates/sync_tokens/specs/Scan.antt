@@ -10,11 +10,11 @@ use Rattle.sync_tokens.specs.declared.token.Kind.TheVariants as kinds
 use Rattle.sync_tokens.specs.declared.token.Token.{Token}
 use Rattle.sync_tokens.specs.declared.scan.Piece.{Piece}
 use Rattle.sync_tokens.specs.declared.scan.Piece.TheVariants as pieces
-use Rattle.sync_tokens.specs.Places.{step, start}
+use Rattle.sync_tokens.specs.Places.{step, first_place}
 use Rattle.sync_tokens.specs.Blanks.{is_space, line_len, comment_len}
 use Rattle.sync_tokens.specs.Words.{is_letter, word_len, word_kind}
 use Rattle.sync_tokens.specs.Signs.{sign_at}
-use Rattle.sync_tokens.specs.Literals.{digits_len, integer_kind, text_at}
+use Rattle.sync_tokens.specs.Literals.{digits_len, integer_kind, literal_at}
 
 -- one more, as far as 64 bits go
 abbrev pub plus : ℕ → ℕ → ℕ
@@ -41,7 +41,7 @@ text_by (Some found) = pieces.Token (kinds.Text found.0) (plus found.1 1)
 
 -- a text, by what stands behind its opening quote
 abbrev pub text : ℕ → List ℕ → Piece
-text quote more = text_by (text_at quote more)
+text quote more = text_by (literal_at quote more)
 
 abbrev pub sign_by : Option (Sign × ℕ) → Piece
 sign_by None = bad_text
@@ -83,7 +83,7 @@ tokens_from (suc left) p (c ∷ cs) = tokens_from left (step p c) cs
 tokens_from zero p (c ∷ cs) = laid p (piece_at (c ∷ cs)) (λ left. tokens_from left (step p c) cs)
 
 abbrev pub tokens_in : List ℕ → List Token
-tokens_in = tokens_from 0 start
+tokens_in = tokens_from 0 first_place
 
 -- the tokens of a text, given as its bytes
 unfoldable pub tokens_of : List ℕ → List Token

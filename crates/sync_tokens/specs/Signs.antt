@@ -17,10 +17,10 @@ signs =
     (codes "-", s.Minus) ∷ (codes "*", s.Star) ∷ (codes "!", s.Not) ∷ []
 
 -- the first sign of the table that the characters begin with, and how many it takes
-abbrev pub lookup : List (List ℕ × Sign) → List ℕ → Option (Sign × ℕ)
-lookup [] chars = None
-lookup (entry ∷ table) chars = if starts_with nat_eq chars entry.0 then Some (entry.1, length entry.0) else lookup table chars
+abbrev pub lookup_sign : List (List ℕ × Sign) → List ℕ → Option (Sign × ℕ)
+lookup_sign [] chars = None
+lookup_sign (entry ∷ table) chars = if starts_with nat_eq chars entry.0 then Some (entry.1, length entry.0) else lookup_sign table chars
 
 -- the longest sign that the characters begin with
 unfoldable pub sign_at : List ℕ → Option (Sign × ℕ)
-sign_at = lookup signs
+sign_at = lookup_sign signs

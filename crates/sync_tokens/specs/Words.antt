@@ -34,13 +34,13 @@ words =
     (codes "this", w.Other) ∷ (codes "with", w.Other) ∷ (codes "yield", w.Other) ∷ []
 
 -- the word at this spelling in the table
-abbrev pub lookup : List (List ℕ × Word) → List ℕ → Option Word
-lookup [] text = None
-lookup (entry ∷ table) text = if bytes_eq entry.0 text then Some entry.1 else lookup table text
+abbrev pub lookup_word : List (List ℕ × Word) → List ℕ → Option Word
+lookup_word [] text = None
+lookup_word (entry ∷ table) text = if bytes_eq entry.0 text then Some entry.1 else lookup_word table text
 
 -- the reserved word that the text is
 unfoldable pub reserved : List ℕ → Option Word
-reserved = lookup words
+reserved = lookup_word words
 
 abbrev pub kind_by : Option Word → List ℕ → Kind
 kind_by None text = Name text

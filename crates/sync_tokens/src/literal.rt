@@ -159,7 +159,7 @@ pub(crate) fn text_at(
     quote: char,
     chars: &[char],
 ) -> Result<Option<(DocText, usize)>, Memory>
-    ensures { IfOk result (λ found. found ≡ spec.text_at quote chars.now) }
+    ensures { IfOk result (λ found. found ≡ spec.literal_at quote chars.now) }
 {
     let mut text = String::new(alloc);
     let mut inside = Inside::Plain;

@@ -38,7 +38,7 @@ pub const SIGNS: [(&[char], Sign); 30] = [
 ];
 
 fn lookup(mut table: &[(&[char], Sign)], chars: &[char]) -> Option<(Sign, usize)>
-    ensures { result ≡ spec.lookup (map (λ k. (k.0.now, k.1)) table.entry.now) chars.now }
+    ensures { result ≡ spec.lookup_sign (map (λ k. (k.0.now, k.1)) table.entry.now) chars.now }
 {
     while let [entry, rest @ ..] = table {
         if chars.starts_with(entry.0) {

@@ -71,7 +71,7 @@ fn text_of(alloc: Global, chars: &[char]) -> Result<String, Memory>
 }
 
 fn lookup(mut table: &[(&str, Word)], word: &str) -> Option<Word>
-    ensures { result ≡ spec.lookup (map (λ k. (k.0.now, k.1)) table.entry.now) word.now }
+    ensures { result ≡ spec.lookup_word (map (λ k. (k.0.now, k.1)) table.entry.now) word.now }
 {
     while let [entry, rest @ ..] = table {
         if entry.0 == word {

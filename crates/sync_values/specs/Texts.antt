@@ -32,10 +32,10 @@ abbrev pub place_text : Place → List ℕ
 place_text p = decimal p.line ++ codes ":" ++ decimal p.column
 
 -- what was thrown
-abbrev pub said : RuleKind → List ℕ
-said (rules.Forbidden s) = codes ": " ++ s
-said _ = []
+abbrev pub thrown_text : RuleKind → List ℕ
+thrown_text (rules.Forbidden s) = codes ": " ++ s
+thrown_text _ = []
 
 -- the rule's name and place, and behind `forbidden` the text that was thrown
 abbrev pub rule_text : Rule → List ℕ
-rule_text r = rule_name r.kind ++ codes " at " ++ place_text r.place ++ said r.kind
+rule_text r = rule_name r.kind ++ codes " at " ++ place_text r.place ++ thrown_text r.kind

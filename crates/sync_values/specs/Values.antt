@@ -80,20 +80,20 @@ unfoldable pub bounded : Place → ℤ → Found Value
 bounded p z = if is_safe z then Ok (v.Integer z) else fails Range p
 
 -- a text of two, which has at most 4,096 bytes
-unfoldable pub joined : Place → List ℕ → List ℕ → Found Value
-joined p a b = if nat_lt 4096 (length a + length b) then fails Size p else Ok (v.Text (a ++ b))
+unfoldable pub joined_texts : Place → List ℕ → List ℕ → Found Value
+joined_texts p a b = if nat_lt 4096 (length a + length b) then fails Size p else Ok (v.Text (a ++ b))
 
 -- `+` adds integers, and joins two texts or a text and an integer in decimal
 abbrev pub added_at : Place → Layer → Layer → Found Value
 added_at p (Value-F.Integer a) (Value-F.Integer b) = bounded p (a +ℤ b)
-added_at p (Value-F.Text a) (Value-F.Text b) = joined p a b
-added_at p (Value-F.Text a) (Value-F.Integer b) = joined p a (signed_decimal b)
-added_at p (Value-F.Integer a) (Value-F.Text b) = joined p (signed_decimal a) b
+added_at p (Value-F.Text a) (Value-F.Text b) = joined_texts p a b
+added_at p (Value-F.Text a) (Value-F.Integer b) = joined_texts p a (signed_decimal b)
+added_at p (Value-F.Integer a) (Value-F.Text b) = joined_texts p (signed_decimal a) b
 added_at p _ _ = type_fault p
 
 -- what `+` makes of two values
-unfoldable pub added : Place → Value → Value → Found Value
-added p x y = added_at p (out-Value x) (out-Value y)
+unfoldable pub added_values : Place → Value → Value → Found Value
+added_values p x y = added_at p (out-Value x) (out-Value y)
 
 -- the integer that a value is
 abbrev pub integer_at : Place → Layer → Found ℤ
@@ -206,7 +206,7 @@ ordered p holds x y = found_then (compared p x y) (λ o. Ok (v.Bool (holds o)))
 
 -- what an operator makes of both operands, of which `||` and `&&` want the second alone
 abbrev pub combined : Place → Operator → Value → Value → Found Value
-combined p op.Add x y = added p x y
+combined p op.Add x y = added_values p x y
 combined p op.Subtract x y = calculated p (λ a b. a -ℤ b) x y
 combined p op.Multiply x y = calculated p (λ a b. a *ℤ b) x y
 combined p op.Less x y = ordered p is_lt x y
@@ -300,8 +300,8 @@ index_from n x [] = negsuc 0
 index_from n x (y ∷ ys) = if same x y then pos n else index_from (n + 1) x ys
 
 -- a list has at most 1,024 items
-unfoldable pub listed : Place → List Value → Found Value
-listed p vs = if nat_lt 1024 (length vs) then fails Size p else Ok (v.List vs)
+unfoldable pub listed_values : Place → List Value → Found Value
+listed_values p vs = if nat_lt 1024 (length vs) then fails Size p else Ok (v.List vs)
 
 -- where a value stands in a list that is seen from outside
 abbrev pub index_at : Place → Layer → Value → Found Value
@@ -314,7 +314,7 @@ index_of p x y = index_at p (out-Value x) y
 
 -- two lists in one, seen from outside
 abbrev pub concat_at : Place → Layer → Layer → Found Value
-concat_at p (Value-F.List vs) (Value-F.List ws) = listed p (vs ++ ws)
+concat_at p (Value-F.List vs) (Value-F.List ws) = listed_values p (vs ++ ws)
 concat_at p _ _ = type_fault p
 
 -- `list.concat(list)`
@@ -327,8 +327,8 @@ begins_at p (Value-F.Text s) (Value-F.Text t) = Ok (v.Bool (starts_with nat_eq s
 begins_at p _ _ = type_fault p
 
 -- `text.startsWith(text)`
-unfoldable pub begins_with : Place → Value → Value → Found Value
-begins_with p x y = begins_at p (out-Value x) (out-Value y)
+unfoldable pub text_begins_with : Place → Value → Value → Found Value
+text_begins_with p x y = begins_at p (out-Value x) (out-Value y)
 
 -- a list, seen from outside
 abbrev pub is_list_at : Layer → Bool
@@ -343,5 +343,5 @@ is_list x = is_list_at (out-Value x)
 abbrev pub by_method : Place → Method → Value → List Value → Found Value
 by_method p m.IndexOf x (y ∷ []) = index_of p x y
 by_method p m.Concat x (y ∷ []) = concat p x y
-by_method p m.StartsWith x (y ∷ []) = begins_with p x y
+by_method p m.StartsWith x (y ∷ []) = text_begins_with p x y
 by_method p _ x _ = type_fault p

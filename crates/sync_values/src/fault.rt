@@ -105,7 +105,7 @@ impl RuleKind {
 
     /// Behind `forbidden` `: ` and the text that was thrown.
     fn push_said(&self, text: &mut DocText) -> Result<(), AllocError>
-        ensures { OnOk result (text.new ≡ text.old ++ spec.said self.now) }
+        ensures { OnOk result (text.new ≡ text.old ++ spec.thrown_text self.now) }
     {
         match self {
             RuleKind::Forbidden(said) => {
@@ -135,7 +135,7 @@ impl Rule {
     /// What stands behind the rule's name.
     fn push_behind(&self, text: &mut DocText) -> Result<(), AllocError>
         ensures { OnOk result (text.new ≡ text.old ++ codes " at "
-            ++ spec.place_text self.now.place ++ spec.said self.now.kind) }
+            ++ spec.place_text self.now.place ++ spec.thrown_text self.now.kind) }
     {
         text.push_str(" at ")?;
         self.push_place(text)?;

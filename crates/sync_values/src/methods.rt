@@ -130,9 +130,9 @@ fn index_of(place: Place, list: &Value, value: &Value) -> Result<Value, Stop>
 }
 
 /// A list of these, unless there are too many.
-#[tactic(auto, unfolding(crate::specs::Values::listed))]
+#[tactic(auto, unfolding(crate::specs::Values::listed_values))]
 pub fn listed(alloc: Global, place: Place, values: Items<Value>) -> Result<Value, Stop>
-    ensures { Gives (spec.listed place values) result }
+    ensures { Gives (spec.listed_values place values) result }
 {
     if values.len() > MAX_ITEMS {
         Err(Stop::fault(FaultKind::Size, place))
@@ -177,9 +177,9 @@ fn concat(alloc: Global, place: Place, first: &Value, second: &Value) -> Result<
 }
 
 /// `text.startsWith(text)`
-#[tactic(auto, unfolding(crate::specs::Values::begins_with))]
+#[tactic(auto, unfolding(crate::specs::Values::text_begins_with))]
 fn begins_with(place: Place, text: &Value, front: &Value) -> Result<Value, Stop>
-    ensures { result ≡ spec.begins_with place text.now front.now }
+    ensures { result ≡ spec.text_begins_with place text.now front.now }
 {
     match (text, front) {
         (Value::Text(a), Value::Text(b)) => Ok(Value::Bool(

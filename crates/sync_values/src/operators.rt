@@ -50,9 +50,9 @@ pub fn bounded(place: Place, n: i128) -> Result<Value, Stop>
 }
 
 /// A text of two.
-#[tactic(auto, unfolding(crate::specs::Values::joined))]
+#[tactic(auto, unfolding(crate::specs::Values::joined_texts))]
 fn joined(alloc: Global, place: Place, first: &str, second: &str) -> Result<Value, Stop>
-    ensures { Gives (spec.joined place first.now second.now) result }
+    ensures { Gives (spec.joined_texts place first.now second.now) result }
 {
     if second.len() > MAX_TEXT || first.len() > MAX_TEXT - second.len() {
         return Err(Stop::fault(FaultKind::Size, place));
@@ -71,9 +71,9 @@ fn decimal_of(alloc: Global, n: i64) -> Result<DocText, Memory>
 }
 
 /// `+`
-#[tactic(auto, unfolding(crate::specs::Values::added))]
+#[tactic(auto, unfolding(crate::specs::Values::added_values))]
 pub fn added(alloc: Global, place: Place, x: &Value, y: &Value) -> Result<Value, Stop>
-    ensures { Gives (spec.added place x.now y.now) result }
+    ensures { Gives (spec.added_values place x.now y.now) result }
 {
     match (x, y) {
         (Value::Integer(a), Value::Integer(b)) => bounded(place, *a as i128 + *b as i128),

@@ -17,9 +17,9 @@ own_after own log (outcome.Stored sequence at) = own_before (book_of log sequenc
 own_after own log other = own
 
 -- own entries, of which the newest stands first, in the order in which they were stored
-abbrev pub in_order : List Waiting → List Entry
-in_order own = reverse (map (λ (w : Waiting). w.entry) own)
+abbrev pub own_in_order : List Waiting → List Entry
+own_in_order own = reverse (map (λ (w : Waiting). w.entry) own)
 
 -- the log ends with these entries
 abbrev pub EndsWith : List Entry → List Waiting → Type 0
-EndsWith log own = (opened : List Entry) × (log ≡ opened ++ in_order own)
+EndsWith log own = (opened : List Entry) × (log ≡ opened ++ own_in_order own)

@@ -9,7 +9,7 @@ use Rattle.sync_syntax.specs.declared.tree.Program.{Program}
 use Rattle.doc_board.specs.declared.outcome.Outcome.{Outcome}
 use Rattle.doc_board.specs.declared.outcome.Outcome.TheVariants as outcome
 use Rattle.doc_board.specs.JudgedWrites.{IsJudgedWrite}
-use Rattle.doc_board.specs.Outcomes.{IsOutcome, IsBadField, IsTooLarge, IsWriteOf, IsByLimits, bytes_of}
+use Rattle.doc_board.specs.Outcomes.{IsOutcome, IsBadPart, IsTooLarge, IsWriteOf, IsByLimits, bytes_of}
 use Rattle.write_path.specs.Reads.{Reads, WasRead, HasLength}
 
 -- the answer is that of a board that was read in between, whose log has the recorded length
@@ -52,7 +52,7 @@ pub record IsRefused (before after : List BoardState) (own_before own_after : Li
 
 -- what is answered: without a board where the revision itself is refused, else by a board that was read in between; and what is own since: the stored write, at every other answer nothing more
 abbrev pub IsProposed : List BoardState → List BoardState → List Waiting → List Waiting → Option ℕ → Program → Bool → Option (List ℕ) → Revision → Outcome → Type 0
-IsProposed before after own_before own_after recorded program strict by r (outcome.Bad400 field) = (own_after ≡ own_before) × IsBadField r field
+IsProposed before after own_before own_after recorded program strict by r (outcome.Bad400 field) = (own_after ≡ own_before) × IsBadPart r field
 IsProposed before after own_before own_after recorded program strict by r (outcome.TooLarge413 bytes) = (own_after ≡ own_before) × IsTooLarge r bytes
 IsProposed before after own_before own_after recorded program strict by r (outcome.UserGone401 at) =
     (own_after ≡ own_before) × IsAnswered before after recorded program strict by r (outcome.UserGone401 at)

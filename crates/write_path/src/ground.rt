@@ -5,7 +5,7 @@ ghost use Rattle.std.specs.Option.{option_copied};
 ghost use Rattle.sg_history.specs.declared.book.Waiting.{Waiting};
 ghost use Rattle.sg_history.specs.Board.{BoardState, SideEntry};
 ghost use Rattle.checkpoint_store.specs.Answers.{kept_at};
-ghost use Rattle.checkpoint_store.specs.Checkpoints.{pair_text};
+ghost use Rattle.checkpoint_store.specs.Checkpoints.{checkpoint_text};
 ghost use Rattle.sg_history.specs.Journal.{IsEntry};
 ghost use Rattle.principals.specs.Script.{entry_of};
 ghost use Rattle.write_path.specs.Reads.{Reads, WasRead, HasLength};
@@ -155,7 +155,7 @@ pub trait Ground: Drop {
         ensures stays { Stays (origin self.old) (origin self.new) (left self.old) (left self.new) }
         ensures answer { IfOk result (λ kept. (b : BoardState)
             × WasRead (read self.old) (read self.new) b × HasCheckpoints (checkpoints self.old) b
-            × (kept ≡ kept_at b.side (pair_text user.now client.now))) };
+            × (kept ≡ kept_at b.side (checkpoint_text user.now client.now))) };
 
     /// Gives the user's client this body as its checkpoint, under the number after `rev`, or answers why not.
     fn set_checkpoint(&mut self, user: &Name, client: &Client, rev: u64, body: Bytes) -> SetAnswer
@@ -165,5 +165,5 @@ pub trait Ground: Drop {
         ensures own { own self.new ≡ own self.old }
         ensures stays { Stays (origin self.old) (origin self.new) (left self.old) (left self.new) }
         ensures sets { SetsCheckpoint (read self.old) (read self.new) (checkpoints self.old)
-            (checkpoints self.new) (pair_text user.now client.now) rev body result };
+            (checkpoints self.new) (checkpoint_text user.now client.now) rev body result };
 }

@@ -7,10 +7,10 @@ ghost use Rattle.repl_messages.specs.declared.revision.Revision.{Revision};
 ghost use Rattle.sync_syntax.specs.declared.tree.Program.{Program};
 ghost use Rattle.doc_board.specs.declared.outcome.Outcome.{Outcome};
 ghost use Rattle.doc_board.specs.State.{State};
-ghost use Rattle.seq_gate.specs.Passes.{Closes, joined};
+ghost use Rattle.seq_gate.specs.Passes.{Closes, joined_passes};
 ghost use Rattle.seq_gate.specs.declared.known.Known.{Known};
 ghost use Rattle.board_steps.specs.After.{IsBoardCommanded, IsBoardAfter};
-ghost use Rattle.write_path.specs.Own.{in_order, own_after};
+ghost use Rattle.write_path.specs.Own.{own_in_order, own_after};
 ghost use Rattle.sg_history.specs.History.{Extends};
 ghost use Rattle.sg_history.specs.Board.{BoardState, board_book, IsAfterAll};
 ghost use Rattle.sg_history.specs.Book.{Later, book_of};
@@ -49,7 +49,7 @@ pub fn was_read()
 pub fn closing()
     ensures closed { (p : Known) (board : BoardState) → Closes p board
         → IsLaterThanAll p.read board.log }
-    ensures joined { (p other : Known) (h : List Entry) → IsLaterThanAll (joined p other).read h
+    ensures joined { (p other : Known) (h : List Entry) → IsLaterThanAll (joined_passes p other).read h
         → IsLaterThanAll p.read h × IsLaterThanAll other.read h }
 {}
 
@@ -57,10 +57,10 @@ pub fn closing()
 pub fn own_entries()
     ensures proposed { (opened : List Entry) (s t : State) (own : List Waiting) (program : Program)
         (by : Option (List ℕ)) (r : Revision) (answer : Outcome)
-        → IsBoardAfter s t program by r answer → s.log ≡ opened ++ in_order own
-        → t.log ≡ opened ++ in_order (own_after own t.log answer) }
+        → IsBoardAfter s t program by r answer → s.log ≡ opened ++ own_in_order own
+        → t.log ≡ opened ++ own_in_order (own_after own t.log answer) }
     ensures commanded { (opened : List Entry) (s t : State) (own : List Waiting) (e : Entry)
         (answer : Outcome)
-        → IsBoardCommanded s t e answer → s.log ≡ opened ++ in_order own
-        → t.log ≡ opened ++ in_order (own_after own t.log answer) }
+        → IsBoardCommanded s t e answer → s.log ≡ opened ++ own_in_order own
+        → t.log ≡ opened ++ own_in_order (own_after own t.log answer) }
 {}

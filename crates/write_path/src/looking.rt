@@ -2,7 +2,7 @@
 
 ghost use Rattle.std.specs.Prelude.{◌≡◌, IfOk};
 ghost use Rattle.checkpoint_store.specs.Answers.{kept_at};
-ghost use Rattle.checkpoint_store.specs.Checkpoints.{pair_text};
+ghost use Rattle.checkpoint_store.specs.Checkpoints.{checkpoint_text};
 ghost use Rattle.sg_history.specs.Board.{BoardState};
 ghost use Rattle.board_steps.specs.Asks.{AskedAt};
 ghost use Rattle.board_steps.specs.Bodies.{BodiesAt};
@@ -94,7 +94,7 @@ pub(crate) fn checkpoint_in_turn<R: Wait>(
     requires rests { Rests pass.knows }
     ensures gate { result.0.gate ≡ pass.gate }
     ensures looked { (found : BoardState) × IsLookTurn pass.knows result.0.knows found
-        × IfOk result.1 (λ kept. kept ≡ kept_at found.side (pair_text user.now client.now)) }
+        × IfOk result.1 (λ kept. kept ≡ kept_at found.side (checkpoint_text user.now client.now)) }
 {
     let mut turn = enter(rt, gate, pass);
     let kept = turn.board().get_checkpoint(user, client);

@@ -3,7 +3,7 @@
 ghost use Rattle.std.specs.Prelude.{◌≡◌, ◌≤◌, ◌+◌, ◌||◌, ◌∷◌, false, length, None, IfOk};
 ghost use Rattle.std.specs.Option.{option_copied};
 ghost use Rattle.checkpoint_store.specs.Answers.{Sets, kept_at};
-ghost use Rattle.checkpoint_store.specs.Checkpoints.{pair_text};
+ghost use Rattle.checkpoint_store.specs.Checkpoints.{checkpoint_text};
 ghost use Rattle.sg_history.specs.Board.{BoardState};
 ghost use Rattle.sg_history.specs.Journal.{IsEntry};
 ghost use Rattle.principals.specs.Script.{entry_of};
@@ -276,7 +276,7 @@ impl<'g, R: Wait> Ground for SharedGround<'g, R> {
             self.old.knows.left self.new.knows.left }
         ensures answer { IfOk result (λ kept. (b : BoardState)
             × WasRead self.old.knows.read self.new.knows.read b × HasCheckpoints None b
-            × (kept ≡ kept_at b.side (pair_text user.now client.now))) }
+            × (kept ≡ kept_at b.side (checkpoint_text user.now client.now))) }
         // At want of memory too.
         ensures turn { (b : BoardState) × (self.new.knows.read ≡ b ∷ b ∷ self.old.knows.read) }
         ensures in_turns { self.new.knows.in_turns ≡ self.old.knows.in_turns }
@@ -296,11 +296,11 @@ impl<'g, R: Wait> Ground for SharedGround<'g, R> {
         ensures stays { Stays (shared_origin self.old) (shared_origin self.new)
             self.old.knows.left self.new.knows.left }
         ensures sets { SetsCheckpoint self.old.knows.read self.new.knows.read None None
-            (pair_text user.now client.now) rev body result }
+            (checkpoint_text user.now client.now) rev body result }
         // At each answer.
         ensures turn { (found : BoardState) × (left : BoardState)
             × (self.new.knows.read ≡ left ∷ found ∷ self.old.knows.read)
-            × Sets found.side (pair_text user.now client.now) rev body result left.side }
+            × Sets found.side (checkpoint_text user.now client.now) rev body result left.side }
         ensures in_turns { self.new.knows.in_turns ≡ self.old.knows.in_turns }
     {
         sg_history::laws::boards();

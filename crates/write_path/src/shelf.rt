@@ -3,7 +3,7 @@
 ghost use Rattle.std.specs.Prelude.{◌≡◌, ◌≢◌, ◌≤◌, ◌<◌, ◌||◌, ◌++◌, ◌∷◌, [], length, None, Some, IfOk, OnOk, OnErr, IsTrue};
 ghost use Rattle.std.specs.Option.{option_copied};
 ghost use Rattle.checkpoint_store.specs.Answers.{kept_at};
-ghost use Rattle.checkpoint_store.specs.Checkpoints.{pair_text};
+ghost use Rattle.checkpoint_store.specs.Checkpoints.{checkpoint_text};
 ghost use Rattle.sg_history.specs.declared.entries.Entry.TheVariants as kinds;
 ghost use Rattle.sg_history.specs.Feed.{feed};
 ghost use Rattle.sg_history.specs.History.{past};
@@ -169,7 +169,7 @@ impl Shelf {
     /// The checkpoint of a user's client at its board, with its whole body.
     pub(crate) fn get_checkpoint(&self, user: &Name, client: &Client) -> Result<Kept0, Memory>
         ensures { IfOk result (λ found. found
-            ≡ kept_at self.now.board.checkpoints (pair_text user.now client.now)) }
+            ≡ kept_at self.now.board.checkpoints (checkpoint_text user.now client.now)) }
     {
         self.board.get_checkpoint(user, client)
     }
@@ -182,7 +182,7 @@ impl Shelf {
         rev: u64,
         body: Bytes,
     ) -> SetAnswer
-        ensures { IsBoardSet self.old.board self.new.board (pair_text user.now client.now) rev body
+        ensures { IsBoardSet self.old.board self.new.board (checkpoint_text user.now client.now) rev body
             result }
     {
         extended(&self.feeds);

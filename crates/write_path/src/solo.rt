@@ -3,7 +3,7 @@
 ghost use Rattle.std.specs.Prelude.{◌≡◌, ◌≤◌, ◌^◌, ◌||◌, [], ◌∷◌, Some, length, IfOk};
 ghost use Rattle.std.specs.Option.{option_copied};
 ghost use Rattle.checkpoint_store.specs.Answers.{kept_at};
-ghost use Rattle.checkpoint_store.specs.Checkpoints.{pair_text};
+ghost use Rattle.checkpoint_store.specs.Checkpoints.{checkpoint_text};
 ghost use Rattle.sg_history.specs.Board.{BoardState, IsAfterAll};
 ghost use Rattle.sg_history.specs.Journal.{IsEntry};
 ghost use Rattle.principals.specs.Script.{entry_of};
@@ -293,7 +293,7 @@ impl Ground for SoloGround {
         ensures answer { IfOk result (λ kept. (b : BoardState)
             × WasRead self.old.read self.new.read b
             × HasCheckpoints (Some self.old.board.checkpoints) b
-            × (kept ≡ kept_at b.side (pair_text user.now client.now))) }
+            × (kept ≡ kept_at b.side (checkpoint_text user.now client.now))) }
         ensures same { IsAsBefore self.old.board self.new.board }
     {
         sg_history::laws::boards();
@@ -310,8 +310,8 @@ impl Ground for SoloGround {
         ensures stays { Stays solo_origin solo_origin (2 ^ 62) (2 ^ 62) }
         ensures sets { SetsCheckpoint self.old.read self.new.read
             (Some self.old.board.checkpoints) (Some self.new.board.checkpoints)
-            (pair_text user.now client.now) rev body result }
-        ensures board { IsBoardSet self.old.board self.new.board (pair_text user.now client.now)
+            (checkpoint_text user.now client.now) rev body result }
+        ensures board { IsBoardSet self.old.board self.new.board (checkpoint_text user.now client.now)
             rev body result }
     {
         sg_history::laws::boards();

@@ -2,7 +2,7 @@
 
 ghost use Rattle.std.specs.Prelude.{◌≡◌, ◌≤◌, ◌+◌, ◌∷◌, [], false, length, None};
 ghost use Rattle.std.specs.Option.{option_copied};
-ghost use Rattle.checkpoint_store.specs.Checkpoints.{pair_text};
+ghost use Rattle.checkpoint_store.specs.Checkpoints.{checkpoint_text};
 ghost use Rattle.sg_history.specs.Journal.{IsEntry};
 ghost use Rattle.principals.specs.Script.{entry_of};
 ghost use Rattle.seq_gate.specs.Counts.{is_unused};
@@ -130,7 +130,7 @@ pub(crate) fn set_in_turn<R: Wait>(
     requires here { pass.gate ≡ gate.now }
     requires rests { Rests pass.knows }
     ensures gate { result.0.gate ≡ pass.gate }
-    ensures set { IsSetTurn pass.knows result.0.knows (pair_text user.now client.now) rev body
+    ensures set { IsSetTurn pass.knows result.0.knows (checkpoint_text user.now client.now) rev body
         result.1 }
 {
     doc_board::laws::after();

@@ -20,7 +20,7 @@ use Rattle.ws_door.specs.declared.answer.Refused.TheVariants as refused
 use Rattle.ws_door.specs.declared.answer.Upgrade.{Upgrade}
 use Rattle.ws_door.specs.declared.greeting.GreetFault.TheVariants as greeting
 use Rattle.ws_door.specs.Requests.{Request, request_of, Makes}
-use Rattle.ws_door.specs.Upgrades.{target_of, then_with, key_in, version_in, session_in, user_in, switching_text, answer_to, IsAnswer}
+use Rattle.ws_door.specs.Upgrades.{target_of, then_with, key_in, version_in, session_in, user_of_session, switching_text, upgrade_answer, IsUpgradeAnswer}
 use Rattle.ws_door.specs.Greetings.{answer_text, greeted, AnswersHead, GreetsIfRecorded}
 
 -- ---- the target
@@ -60,7 +60,7 @@ abbrev with_user : List ℕ → Version → List ℕ → Result Upgrade Refused
 with_user key version user = Ok (record { user = user; version = version; reply = switching_text key version })
 
 abbrev with_session : List ConfigUser → List ℕ → Version → List ℕ → Result Upgrade Refused
-with_session users key version session = then_with (user_in users session) (with_user key version)
+with_session users key version session = then_with (user_of_session users session) (with_user key version)
 
 abbrev with_version : List ConfigUser → Request → List ℕ → Version → Result Upgrade Refused
 with_version users request key version = then_with (session_in request) (with_session users key version)
@@ -69,42 +69,42 @@ abbrev with_key : List ConfigUser → Request → List ℕ → Result Upgrade Re
 with_key users request key = then_with (version_in request) (with_version users request key)
 
 pub refused_by_key : (database : List ℕ) (users : List ConfigUser) (request : Request) (why : Refused) → key_in database request ≡ Err why
-    → Err why ≡ answer_to database users request
+    → Err why ≡ upgrade_answer database users request
 refused_by_key database users request why never = sym (ap (λ (r : Result (List ℕ) Refused). then_with r (with_key users request)) never)
 
 by_key : (database : List ℕ) (users : List ConfigUser) (request : Request) (key : List ℕ) → key_in database request ≡ Ok key
-    → answer_to database users request ≡ with_key users request key
+    → upgrade_answer database users request ≡ with_key users request key
 by_key database users request key is = ap (λ (r : Result (List ℕ) Refused). then_with r (with_key users request)) is
 
 pub refused_by_version : (database : List ℕ) (users : List ConfigUser) (request : Request) (key : List ℕ) (why : Refused) → key_in database request ≡ Ok key
-    → version_in request ≡ Err why → Err why ≡ answer_to database users request
+    → version_in request ≡ Err why → Err why ≡ upgrade_answer database users request
 refused_by_version database users request key why k never =
     sym (by_key database users request key k ∙ ap (λ (r : Result Version Refused). then_with r (with_version users request key)) never)
 
 by_version : (database : List ℕ) (users : List ConfigUser) (request : Request) (key : List ℕ) (version : Version) → key_in database request ≡ Ok key
-    → version_in request ≡ Ok version → answer_to database users request ≡ with_version users request key version
+    → version_in request ≡ Ok version → upgrade_answer database users request ≡ with_version users request key version
 by_version database users request key version k v =
     by_key database users request key k ∙ ap (λ (r : Result Version Refused). then_with r (with_version users request key)) v
 
 pub refused_by_session : (database : List ℕ) (users : List ConfigUser) (request : Request) (key : List ℕ) (version : Version) (why : Refused) → key_in database request ≡ Ok key
-    → version_in request ≡ Ok version → session_in request ≡ Err why → Err why ≡ answer_to database users request
+    → version_in request ≡ Ok version → session_in request ≡ Err why → Err why ≡ upgrade_answer database users request
 refused_by_session database users request key version why k v never =
     sym (by_version database users request key version k v ∙ ap (λ (r : Result (List ℕ) Refused). then_with r (with_session users key version)) never)
 
 by_session : (database : List ℕ) (users : List ConfigUser) (request : Request) (key : List ℕ) (version : Version) (session : List ℕ) → key_in database request ≡ Ok key
-    → version_in request ≡ Ok version → session_in request ≡ Ok session → answer_to database users request ≡ with_session users key version session
+    → version_in request ≡ Ok version → session_in request ≡ Ok session → upgrade_answer database users request ≡ with_session users key version session
 by_session database users request key version session k v s =
     by_version database users request key version k v ∙ ap (λ (r : Result (List ℕ) Refused). then_with r (with_session users key version)) s
 
 pub refused_by_user : (database : List ℕ) (users : List ConfigUser) (request : Request) (key : List ℕ) (version : Version) (session : List ℕ) (why : Refused)
-    → key_in database request ≡ Ok key → version_in request ≡ Ok version → session_in request ≡ Ok session → user_in users session ≡ Err why
-    → Err why ≡ answer_to database users request
+    → key_in database request ≡ Ok key → version_in request ≡ Ok version → session_in request ≡ Ok session → user_of_session users session ≡ Err why
+    → Err why ≡ upgrade_answer database users request
 refused_by_user database users request key version session why k v s never =
     sym (by_session database users request key version session k v s ∙ ap (λ (r : Result (List ℕ) Refused). then_with r (with_user key version)) never)
 
 pub answered_by_user : (database : List ℕ) (users : List ConfigUser) (request : Request) (key : List ℕ) (version : Version) (session user : List ℕ)
-    → key_in database request ≡ Ok key → version_in request ≡ Ok version → session_in request ≡ Ok session → user_in users session ≡ Ok user
-    → Ok (record { user = user; version = version; reply = switching_text key version }) ≡ answer_to database users request
+    → key_in database request ≡ Ok key → version_in request ≡ Ok version → session_in request ≡ Ok session → user_of_session users session ≡ Ok user
+    → Ok (record { user = user; version = version; reply = switching_text key version }) ≡ upgrade_answer database users request
 answered_by_user database users request key version session user k v s u =
     sym (by_session database users request key version session k v s ∙ ap (λ (r : Result (List ℕ) Refused). then_with r (with_user key version)) u)
 
@@ -115,7 +115,7 @@ answered (Ok u) upgrade right is h never = ap (λ (u : Upgrade). Ok u) h ∙ is
 answered (Err e) upgrade right is h never = absurd (never (ap (λ (e : Refused). Err e) h))
 
 pub answer_for : (bytes : List ℕ) (config : Config) (request : Request) (answer : Result Upgrade Refused) → Makes bytes request
-    → answer ≡ answer_to config.database config.users request → IsAnswer bytes config answer
+    → answer ≡ upgrade_answer config.database config.users request → IsUpgradeAnswer bytes config answer
 answer_for bytes config request answer makes is = inl (request, makes, is)
 
 -- ---- bytes and configuration determine the answer
@@ -124,9 +124,9 @@ one_request : (bytes : List ℕ) (one other : Request) → Makes bytes one → M
 one_request bytes one other m n =
     let same = request_unique bytes m.0 n.0 m.1 n.1 m.2 n.2 in m.4 ∙ ap request_of same.0 ∙ sym n.4
 
-pub one_answer : (bytes : List ℕ) (config : Config) (one other : Result Upgrade Refused) → IsAnswer bytes config one → IsAnswer bytes config other → one ≡ other
+pub one_answer : (bytes : List ℕ) (config : Config) (one other : Result Upgrade Refused) → IsUpgradeAnswer bytes config one → IsUpgradeAnswer bytes config other → one ≡ other
 one_answer bytes config one other (inl m) (inl n) =
-    m.2 ∙ ap (answer_to config.database config.users) (one_request bytes m.0 n.0 m.1 n.1) ∙ sym n.2
+    m.2 ∙ ap (upgrade_answer config.database config.users) (one_request bytes m.0 n.0 m.1 n.1) ∙ sym n.2
 one_answer bytes config one other (inl m) (inr n) = absurd (n.0 m.1.0 m.1.1 m.1.3 m.1.2)
 one_answer bytes config one other (inr m) (inl n) = absurd (m.0 n.1.0 n.1.1 n.1.3 n.1.2)
 one_answer bytes config one other (inr m) (inr n) = m.1 ∙ sym n.1
@@ -140,7 +140,7 @@ unwritten before after bytes w = λ i. record { read = w.2 i; taken = w.0 i; gav
     nothing_more = w.1 ∙ append-nil before.gave
 
 pub greets : (bytes : List ℕ) (config : Config) (from to : Option LinkRecord) (answer : Result Upgrade Refused) (given : Gave)
-    → IsAnswer bytes config answer → WritesIfRecorded from (answer_text answer) given to → GreetsIfRecorded bytes config from (greeted answer given) to
+    → IsUpgradeAnswer bytes config answer → WritesIfRecorded from (answer_text answer) given to → GreetsIfRecorded bytes config from (greeted answer given) to
 greets bytes config None to (Ok u) gave.Done is w = w
 greets bytes config None to (Err e) gave.Done is w = w
 greets bytes config None to answer gave.Failed is w = w
@@ -150,7 +150,7 @@ greets bytes config (Some from) to (Err e) gave.Done is w = (w.0, w.1, (is, w.2)
 greets bytes config (Some from) to answer gave.Failed is w = (w.0, w.1, (answer, is, w.2))
 greets bytes config (Some from) to answer gave.Memory is w = (w.0, w.1, unwritten from w.0 (answer_text answer) w.2)
 
-pub greets_answer : (bytes : List ℕ) (config : Config) (answer : Result Upgrade Refused) (given : Gave) → IsAnswer bytes config answer → AnswersHead bytes config (greeted answer given)
+pub greets_answer : (bytes : List ℕ) (config : Config) (answer : Result Upgrade Refused) (given : Gave) → IsUpgradeAnswer bytes config answer → AnswersHead bytes config (greeted answer given)
 greets_answer bytes config (Ok u) gave.Done is = is
 greets_answer bytes config (Err e) gave.Done is = is
 greets_answer bytes config answer gave.Failed is = tt

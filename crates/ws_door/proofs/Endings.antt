@@ -2,7 +2,7 @@
 use Rattle.std.proofs.Common.{◌≡◌, ◌↔◌, ℕ, List, [], ◌∷◌, ◌++◌, Option, Some, None, Result, refl, sym, ap, ◌∙◌, append_assoc, append-nil}
 use Rattle.sg_outside.specs.Wire.{LineRead}
 use Rattle.ws_door.specs.declared.heads.HeadFault.{HeadFault}
-use Rattle.ws_door.specs.Heads.{ending, bytes_in, idle_in, last_ending, head_behind, head_in, Ends}
+use Rattle.ws_door.specs.Heads.{ending, bytes_in, idle_in, last_ending, head_behind, head_in, EndsReading}
 
 abbrev Answer : Type 0
 Answer = Result (List ℕ) HeadFault
@@ -73,7 +73,7 @@ found_end seen (result ∷ before) last answer so none =
     ∙ found_end (seen ++ result ∷ []) before last answer (moved seen before result last ∙ so)
     (λ front back r h. moved seen front result r ∙ none (result ∷ front) back r (ap (λ (more : List LineRead). result ∷ more) h))
 
-pub ends_so : (results : List LineRead) (answer : Answer) → (head_in results ≡ Some answer) ↔ Ends results answer
+pub ends_so : (results : List LineRead) (answer : Answer) → (head_in results ≡ Some answer) ↔ EndsReading results answer
 ends_so results answer = (
   λ e. let first = first_end [] results answer e in record {
     before = first.before;

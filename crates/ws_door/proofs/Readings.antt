@@ -11,7 +11,7 @@ use Rattle.sg_lines.specs.Link.{read_after, ReadsIfRecorded}
 use Rattle.ws_door.specs.declared.heads.HeadFault.{HeadFault}
 use Rattle.ws_door.specs.declared.heads.HeadFault.TheVariants as fault
 use Rattle.ws_door.specs.declared.head_reader.HeadReader.{HeadReader}
-use Rattle.ws_door.specs.Heads.{is_whole, bytes_of, is_idle, is_single, bytes_in, idle_in, ending, last_ending, head_behind, head_in, EndsWith, ReadsHeadIfRecorded}
+use Rattle.ws_door.specs.Heads.{is_whole, read_bytes, is_idle, is_single, bytes_in, idle_in, ending, last_ending, head_behind, head_in, EndsReadingWith, ReadsHeadIfRecorded}
 use Rattle.ws_door.specs.inner.HeadReader.{HasRoom, answer_of, Continues, ReadsOn, Follows}
 
 read_none : (mid to : Option LinkRecord) (read : LineRead) → mid ≡ None → ReadsIfRecorded mid read to → to ≡ None
@@ -42,8 +42,8 @@ ends_here : (results : List LineRead) (read : LineRead) (answer : Result (List �
 ends_here results read answer goes e =
     goes (read ∷ []) ∙ ap (λ o. last_ending o [] (head_behind (results ++ read ∷ []) [])) e
 
-one_more_bytes : (results : List LineRead) (read : LineRead) → bytes_in (results ++ read ∷ []) ≡ bytes_in results ++ bytes_of read
-one_more_bytes results read = flat_map-append bytes_of results (read ∷ []) ∙ ap (λ x. bytes_in results ++ x) (append-nil (bytes_of read))
+one_more_bytes : (results : List LineRead) (read : LineRead) → bytes_in (results ++ read ∷ []) ≡ bytes_in results ++ read_bytes read
+one_more_bytes results read = flat_map-append read_bytes results (read ∷ []) ∙ ap (λ x. bytes_in results ++ x) (append-nil (read_bytes read))
 
 one_more_idle : (results : List LineRead) (read : LineRead) → idle_in (results ++ read ∷ []) ≡ idle_in results + count_by is_idle (read ∷ [])
 one_more_idle results read = sum_by-append (λ r. cond (is_idle r) 1 0) results (read ∷ [])
@@ -80,7 +80,7 @@ follows_on (Some from) mid to before after whole is f r =
       f.0 ++ r.0 ∷ [],
       record {
         read = read_further from mid to f.0 r.0 f.1.read r.1;
-        bytes = r.2.bytes ∙ ap (λ b. b ++ bytes_of r.0) f.1.bytes ∙ sym (one_more_bytes f.0 r.0);
+        bytes = r.2.bytes ∙ ap (λ b. b ++ read_bytes r.0) f.1.bytes ∙ sym (one_more_bytes f.0 r.0);
         idle = r.2.idle ∙ ap (λ i. i + count_by is_idle (r.0 ∷ [])) f.1.idle ∙ sym (one_more_idle f.0 r.0);
         single = one_more_single f.0 r.0 f.1.single r.3;
         goes_on = goes_further f.0 r.0 f.1.goes_on same;
@@ -94,7 +94,7 @@ room_left before after false is continues = continues.0
 
 ends_so : (from : LinkRecord) (mid to : Option LinkRecord) (before after : HeadReader) (answer : Result Bool HeadFault) (end : Result (List ℕ) HeadFault)
     → Follows (Some from) before mid → ReadsOn mid before answer to after → answer_of answer after.bytes.items ≡ Some end
-    → (link : LinkRecord) × (to ≡ Some link) × EndsWith from end link
+    → (link : LinkRecord) × (to ≡ Some link) × EndsReadingWith from end link
 ends_so from mid to before after answer end f r e =
     let same = same_ending before f.0 r.0 (Some end) f.1.bytes f.1.idle (sym e ∙ r.2.ending_is) in (
       record from { read = from.read ++ (f.0 ++ r.0 ∷ []) },

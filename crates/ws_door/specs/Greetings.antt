@@ -10,7 +10,7 @@ use Rattle.ws_door.specs.declared.answer.Refused.TheVariants as refused
 use Rattle.ws_door.specs.declared.answer.Upgrade.{Upgrade}
 use Rattle.ws_door.specs.declared.greeting.GreetFault.{GreetFault}
 use Rattle.ws_door.specs.declared.greeting.GreetFault.TheVariants as greeting
-use Rattle.ws_door.specs.Upgrades.{IsAnswer}
+use Rattle.ws_door.specs.Upgrades.{IsUpgradeAnswer}
 
 -- the lines that end a refusal
 abbrev pub closing : List ℕ
@@ -39,16 +39,16 @@ greeted answer gave.Memory = Err greeting.Memory
 
 -- an upgrade and a refusal are the answer to these bytes
 abbrev pub AnswersHead : List ℕ → Config → Result Upgrade GreetFault → Type 0
-AnswersHead bytes config (Ok upgrade) = IsAnswer bytes config (Ok upgrade)
-AnswersHead bytes config (Err (greeting.Refused why)) = IsAnswer bytes config (Err why)
+AnswersHead bytes config (Ok upgrade) = IsUpgradeAnswer bytes config (Ok upgrade)
+AnswersHead bytes config (Err (greeting.Refused why)) = IsUpgradeAnswer bytes config (Err why)
 AnswersHead bytes config (Err greeting.LinkFault) = Unit {0}
 AnswersHead bytes config (Err greeting.Memory) = Unit {0}
 
 -- the text of the answer to these bytes was written in one write, at a fault a beginning of it; out of memory nothing was
 abbrev pub Greets : List ℕ → Config → LinkRecord → Result Upgrade GreetFault → LinkRecord → Type 0
-Greets bytes config before (Ok upgrade) after = IsAnswer bytes config (Ok upgrade) × Writes before upgrade.reply gave.Done after
-Greets bytes config before (Err (greeting.Refused why)) after = IsAnswer bytes config (Err why) × Writes before (refusal_text why) gave.Done after
-Greets bytes config before (Err greeting.LinkFault) after = (answer : Result Upgrade Refused) × IsAnswer bytes config answer × Writes before (answer_text answer) gave.Failed after
+Greets bytes config before (Ok upgrade) after = IsUpgradeAnswer bytes config (Ok upgrade) × Writes before upgrade.reply gave.Done after
+Greets bytes config before (Err (greeting.Refused why)) after = IsUpgradeAnswer bytes config (Err why) × Writes before (refusal_text why) gave.Done after
+Greets bytes config before (Err greeting.LinkFault) after = (answer : Result Upgrade Refused) × IsUpgradeAnswer bytes config answer × Writes before (answer_text answer) gave.Failed after
 Greets bytes config before (Err greeting.Memory) after = after ≡ before
 
 -- the same where the link records

@@ -14,11 +14,11 @@ abbrev pub is_whole : List ℕ → Bool
 is_whole bytes = ends_empty_line bytes || length bytes == 8192
 
 -- the bytes that reading gave
-abbrev pub bytes_of : LineRead → List ℕ
-bytes_of (LineRead.Bytes bytes) = bytes
-bytes_of LineRead.Idle = []
-bytes_of LineRead.End = []
-bytes_of LineRead.Failed = []
+abbrev pub read_bytes : LineRead → List ℕ
+read_bytes (LineRead.Bytes bytes) = bytes
+read_bytes LineRead.Idle = []
+read_bytes LineRead.End = []
+read_bytes LineRead.Failed = []
 
 abbrev pub is_idle : LineRead → Bool
 is_idle (LineRead.Bytes bytes) = false
@@ -35,7 +35,7 @@ is_single LineRead.Failed = true
 
 -- all bytes that these results gave, and how many of them were idle
 abbrev pub bytes_in : List LineRead → List ℕ
-bytes_in results = flat_map bytes_of results
+bytes_in results = flat_map read_bytes results
 
 abbrev pub idle_in : List LineRead → ℕ
 idle_in results = count_by is_idle results
@@ -63,7 +63,7 @@ abbrev pub head_in : List LineRead → Option (Result (List ℕ) HeadFault)
 head_in results = head_behind [] results
 
 -- reading goes on after each of these results but the last, and this is how it ends with that
-pub record Ends (results : List LineRead) (answer : Result (List ℕ) HeadFault) : Type 0 where
+pub record EndsReading (results : List LineRead) (answer : Result (List ℕ) HeadFault) : Type 0 where
   pub before : List LineRead
   pub last : LineRead
   pub are : results ≡ before ++ last ∷ []
@@ -71,15 +71,15 @@ pub record Ends (results : List LineRead) (answer : Result (List ℕ) HeadFault)
   pub goes_on : (front back : List LineRead) (result : LineRead) → before ≡ front ++ result ∷ back → ending (bytes_in front) (idle_in front) result ≡ None
 
 -- these results and no more were read, one byte at a time, and nothing was written
-abbrev pub EndsWith : LinkRecord → Result (List ℕ) HeadFault → LinkRecord → Type 0
-EndsWith before answer after = (results : List LineRead) × (head_in results ≡ Some answer) × IsTrue (list_all is_single results) × (after ≡ record before { read = before.read ++ results })
+abbrev pub EndsReadingWith : LinkRecord → Result (List ℕ) HeadFault → LinkRecord → Type 0
+EndsReadingWith before answer after = (results : List LineRead) × (head_in results ≡ Some answer) × IsTrue (list_all is_single results) × (after ≡ record before { read = before.read ++ results })
 
 -- the same; out of memory nothing was read
 abbrev pub ReadsHead : LinkRecord → Result (List ℕ) HeadFault → LinkRecord → Type 0
-ReadsHead before (Ok head) after = EndsWith before (Ok head) after
-ReadsHead before (Err fault.Ended) after = EndsWith before (Err fault.Ended) after
-ReadsHead before (Err fault.Slow) after = EndsWith before (Err fault.Slow) after
-ReadsHead before (Err fault.LinkFault) after = EndsWith before (Err fault.LinkFault) after
+ReadsHead before (Ok head) after = EndsReadingWith before (Ok head) after
+ReadsHead before (Err fault.Ended) after = EndsReadingWith before (Err fault.Ended) after
+ReadsHead before (Err fault.Slow) after = EndsReadingWith before (Err fault.Slow) after
+ReadsHead before (Err fault.LinkFault) after = EndsReadingWith before (Err fault.LinkFault) after
 ReadsHead before (Err fault.Memory) after = after ≡ before
 
 -- the same where the link records

@@ -20,9 +20,9 @@ abbrev pub target_of : List ℕ → List ℕ
 target_of database = codes "/" ++ database ++ codes "/_blipsync"
 
 -- there is a value, and it passes the test
-abbrev pub passes : (List ℕ → Bool) → Option (List ℕ) → Bool
-passes test None = false
-passes test (Some value) = test value
+abbrev pub passes_test : (List ℕ → Bool) → Option (List ℕ) → Bool
+passes_test test None = false
+passes_test test (Some value) = test value
 
 abbrev pub if_of_24 : Option (List ℕ) → Option (List ℕ)
 if_of_24 None = None
@@ -31,7 +31,7 @@ if_of_24 (Some key) = if length key == 24 then Some key else None
 -- the key of 24 bytes in a request for a WebSocket of version 13
 abbrev pub websocket_key : Request → Option (List ℕ)
 websocket_key request =
-    if passes (λ v. str_eq_ignore_ascii_case v (codes "websocket")) request.upgrade && passes (λ v. bytes_eq v (codes "13")) request.version
+    if passes_test (λ v. str_eq_ignore_ascii_case v (codes "websocket")) request.upgrade && passes_test (λ v. bytes_eq v (codes "13")) request.version
     then if_of_24 request.key else None
 
 -- the name of the subprotocol in which a version is spoken
@@ -52,14 +52,14 @@ abbrev pub version_in_protocols : List ℕ → Option Version
 version_in_protocols value = first_given version_in_item (pieces 44 value)
 
 -- whether this is the session that a user has, if it has one
-abbrev pub is_session : List ℕ → Option (List ℕ) → Bool
-is_session session None = false
-is_session session (Some own) = bytes_eq own session
+abbrev pub is_own_session : List ℕ → Option (List ℕ) → Bool
+is_own_session session None = false
+is_own_session session (Some own) = bytes_eq own session
 
 -- the name of the user that has the session
 abbrev pub user_with : List ℕ → List ConfigUser → Option (List ℕ)
 user_with session [] = None
-user_with session (user ∷ users) = if is_session session user.session then Some user.name else user_with session users
+user_with session (user ∷ users) = if is_own_session session user.session then Some user.name else user_with session users
 
 -- the text that answers a key with the upgrade
 abbrev pub switching_text : List ℕ → Version → List ℕ
@@ -75,9 +75,9 @@ module _ {A : Type 0} where
 
 module _ {A B : Type 0} where
   -- what a value gives, if there is one
-  abbrev pub given_by : (A → Option B) → Option A → Option B
-  given_by given None = None
-  given_by given (Some value) = given value
+  abbrev pub option_then : (A → Option B) → Option A → Option B
+  option_then given None = None
+  option_then given (Some value) = given value
 
   -- what follows from a value; a refusal stays
   abbrev pub then_with : Result A Refused → (A → Result B Refused) → Result B Refused
@@ -92,25 +92,25 @@ key_in database request =
     else Err refused.Bad400
 
 abbrev pub version_in : Request → Result Version Refused
-version_in request = or_refused refused.Protocol426 (given_by version_in_protocols request.protocols)
+version_in request = or_refused refused.Protocol426 (option_then version_in_protocols request.protocols)
 
 abbrev pub session_in : Request → Result (List ℕ) Refused
-session_in request = or_refused refused.NoCookie401 (given_by session_in_cookies request.cookies)
+session_in request = or_refused refused.NoCookie401 (option_then session_in_cookies request.cookies)
 
-abbrev pub user_in : List ConfigUser → List ℕ → Result (List ℕ) Refused
-user_in users session = or_refused refused.UnknownCookie401 (user_with session users)
+abbrev pub user_of_session : List ConfigUser → List ℕ → Result (List ℕ) Refused
+user_of_session users session = or_refused refused.UnknownCookie401 (user_with session users)
 
 -- the answer to a request: the first refusal, or the upgrade
-abbrev pub answer_to : List ℕ → List ConfigUser → Request → Result Upgrade Refused
-answer_to database users request =
+abbrev pub upgrade_answer : List ℕ → List ConfigUser → Request → Result Upgrade Refused
+upgrade_answer database users request =
     then_with (key_in database request) (λ key.
     then_with (version_in request) (λ version.
     then_with (session_in request) (λ session.
-    then_with (user_in users session) (λ user.
+    then_with (user_of_session users session) (λ user.
     Ok (record { user = user; version = version; reply = switching_text key version })))))
 
 -- the answer to bytes: that to the request that they make, where they begin with a head of at most 256 fields
-abbrev pub IsAnswer : List ℕ → Config → Result Upgrade Refused → Type 0
-IsAnswer bytes config answer =
-    ((request : Request) × Makes bytes request × (answer ≡ answer_to config.database config.users request))
+abbrev pub IsUpgradeAnswer : List ℕ → Config → Result Upgrade Refused → Type 0
+IsUpgradeAnswer bytes config answer =
+    ((request : Request) × Makes bytes request × (answer ≡ upgrade_answer config.database config.users request))
     ⊎ (HasNoHead bytes × (answer ≡ Err refused.Bad400))

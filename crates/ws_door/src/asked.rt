@@ -4,7 +4,7 @@ ghost use Rattle.std.specs.Prelude.{◌≡◌, ◌≢◌, ◌++◌, ℕ, List, c
 ghost use Rattle.std.specs.Str.{bytes_eq, str_eq_ignore_ascii_case};
 ghost use Rattle.ws_door.specs.inner.Shown.{shown};
 ghost use Rattle.ws_door.specs.Upgrades as spec;
-ghost use Rattle.ws_door.specs.Upgrades.{target_of, passes, if_of_24};
+ghost use Rattle.ws_door.specs.Upgrades.{target_of, passes_test, if_of_24};
 
 use crate::answer::Refused;
 use crate::cookies::session_in_cookies;
@@ -35,7 +35,7 @@ fn is_target(target: &[u8], database: &[u8]) -> bool
 }
 
 fn is_websocket(value: Option<&[u8]>) -> bool
-    ensures { result ≡ passes (λ v. str_eq_ignore_ascii_case v (codes "websocket"))
+    ensures { result ≡ passes_test (λ v. str_eq_ignore_ascii_case v (codes "websocket"))
         (option_map (λ v. v.now) value.entry) }
 {
     match value {
@@ -45,7 +45,7 @@ fn is_websocket(value: Option<&[u8]>) -> bool
 }
 
 fn is_version_13(value: Option<&[u8]>) -> bool
-    ensures { result ≡ passes (λ v. bytes_eq v (codes "13")) (option_map (λ v. v.now) value.entry) }
+    ensures { result ≡ passes_test (λ v. bytes_eq v (codes "13")) (option_map (λ v. v.now) value.entry) }
 {
     match value {
         Some(value) => value == b"13".as_slice(),

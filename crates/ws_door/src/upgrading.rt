@@ -2,7 +2,7 @@
 
 ghost use Rattle.std.specs.Prelude.{◌≡◌, ◌≢◌, MatchResult};
 ghost use Rattle.ws_door.specs.inner.Shown.{shown};
-ghost use Rattle.ws_door.specs.Upgrades.{answer_to, IsAnswer, switching_text};
+ghost use Rattle.ws_door.specs.Upgrades.{upgrade_answer, IsUpgradeAnswer, switching_text};
 
 use crate::answer::{Refused, Upgrade};
 use crate::asked::{key_in, session_in, version_in};
@@ -40,7 +40,7 @@ fn upgrade_of(alloc: Global, user: &Name, version: Version, key: &[u8]) -> Resul
 /// The answer to a request.
 fn answer(alloc: Global, request: &Request<'_>, config: &Config) -> Result<Upgrade, Refused>
     ensures { result ≢ Err Refused.Memory
-        → result ≡ answer_to config.now.database config.now.users (shown request.now) }
+        → result ≡ upgrade_answer config.now.database config.now.users (shown request.now) }
 {
     let key = key_in(request, config.database.as_str().as_bytes())?;
     let version = version_in(request)?;
@@ -51,7 +51,7 @@ fn answer(alloc: Global, request: &Request<'_>, config: &Config) -> Result<Upgra
 
 /// Answers the head of a request: with the upgrade, or with the first refusal.
 pub fn upgrade(alloc: Global, head: &[u8], config: &Config) -> Result<Upgrade, Refused>
-    ensures { result ≢ Err Refused.Memory → IsAnswer head.now config.now result }
+    ensures { result ≢ Err Refused.Memory → IsUpgradeAnswer head.now config.now result }
 {
     match read_request(head) {
         Some(request) => answer(alloc, &request, config),

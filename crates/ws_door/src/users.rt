@@ -10,7 +10,7 @@ use sg_history::Name;
 
 /// Whether a user's session, if it has one, is this one.
 fn is_session(session: &[u8], own: &Option<DocText>) -> bool
-    ensures { result ≡ spec.is_session session.now own.now }
+    ensures { result ≡ spec.is_own_session session.now own.now }
 {
     match own {
         Some(own) => own.as_str().as_bytes() == session,
@@ -31,8 +31,8 @@ fn user_with<'a>(session: &[u8], users: &'a [ConfigUser]) -> Option<&'a Name>
 
 /// The name of the user that has the session.
 pub(crate) fn user_in<'a>(session: &[u8], users: &'a [ConfigUser]) -> Result<&'a Name, Refused>
-    ensures { MatchResult result (λ n. spec.user_in users.now session.now ≡ Ok n.now)
-        (λ e. spec.user_in users.now session.now ≡ Err e) }
+    ensures { MatchResult result (λ n. spec.user_of_session users.now session.now ≡ Ok n.now)
+        (λ e. spec.user_of_session users.now session.now ≡ Err e) }
 {
     match user_with(session, users) {
         Some(name) => Ok(name),

@@ -6,7 +6,7 @@ use Rattle.std.specs.List.Sorted.{IsStrictlySortedBy}
 use Rattle.std.specs.Map.{keys_of, values_of}
 use Rattle.std.specs.Ordering.{nat_cmp}
 use Rattle.blip_frame.specs.Checksum.{checksum}
-use Rattle.blip_frame.specs.Frame.{spelling, sent_after, value_after, WritesAfter}
+use Rattle.blip_frame.specs.Frame.{spelling, payload_sent_after, value_after, WritesAfter}
 use Rattle.blip_mux.specs.Sending.{Waiting, may_send, chosen, first_piece, without_piece}
 use Rattle.blip_mux.specs.inner.Entries.{Entries, look, without}
 use Rattle.blip_mux.specs.declared.class.Class.{Class}
@@ -88,4 +88,4 @@ pub record IsMoved (turn : ReadyMessage) (s : Stamped) : Type 0 where
 pub record Writes (w : Waiting) (before after : ℕ) (old new : List ℕ) : Type 0 where
   pub frame : new ≡ old ++ spelling (value_after before (first_piece w)) (first_piece w)
   pub value : after ≡ value_after before (first_piece w)
-  pub sent : (sent : List ℕ) → before ≡ checksum sent → WritesAfter sent old new (first_piece w) × (after ≡ checksum (sent_after sent (first_piece w)))
+  pub sent : (sent : List ℕ) → before ≡ checksum sent → WritesAfter sent old new (first_piece w) × (after ≡ checksum (payload_sent_after sent (first_piece w)))

@@ -8,7 +8,7 @@ use Rattle.sync_syntax.specs.Statements.{parsed}
 use Rattle.sync_resolve.specs.declared.fault.ResolveFault.{ResolveFault}
 use Rattle.sync_resolve.specs.declared.fault.ResolveFault.TheVariants as resolve
 use Rattle.sync_resolve.specs.Resolving.{faults}
-use Rattle.gateway_config.specs.Members.{json_of}
+use Rattle.gateway_config.specs.Members.{config_json}
 use Rattle.config_check.specs.declared.function.FunctionFault.{FunctionFault}
 use Rattle.config_check.specs.declared.function.FunctionWhy.{FunctionWhy}
 use Rattle.config_check.specs.declared.function.FunctionWhy.TheVariants.{Syntax, UnknownName, WrongCount, Redeclared, ConstWritten}
@@ -30,4 +30,4 @@ IsFoundOf read (Some fault) = IsRefusedAt read fault.place fault.why
 
 -- the fault that was found of the function's text, where the bytes are JSON
 abbrev pub IsFoundIn : List ℕ → Option FunctionFault → Type 0
-IsFoundIn bytes found = (d : Data) → json_of bytes ≡ Some d → IsFoundOf (parsed (function_text d)) found
+IsFoundIn bytes found = (d : Data) → config_json bytes ≡ Some d → IsFoundOf (parsed (function_text d)) found

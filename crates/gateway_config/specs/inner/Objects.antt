@@ -6,7 +6,7 @@ use Rattle.serde_json.specs.View.{members_view}
 use Rattle.sg_history.specs.declared.config_fault.ConfigWhy.TheVariants as why
 use Rattle.gateway_config.specs.declared.object.Object.{Object}
 use Rattle.gateway_config.specs.declared.settings.Settings.{Settings}
-use Rattle.gateway_config.specs.Faults.{Fault, accepts_fault, bind_fault, channels_fault, conflicts_fault, database_fault, item_path, list_fault, name_fault, names_fault, object_fault, role_object_fault, roles_fault, session_fault, sync_fault, user_object_fault, users_fault}
+use Rattle.gateway_config.specs.Faults.{Fault, accepts_fault, bind_fault, channels_fault, conflicts_fault, database_fault, item_path, list_fault, name_fault, names_fault, object_fault, role_object_fault, roles_fault, session_fault, function_fault, user_object_fault, users_fault}
 use Rattle.gateway_config.specs.Values.{accepts_of, bind_of, conflicts_of, database_of}
 
 -- the members of an object
@@ -46,7 +46,7 @@ abbrev pub setting_tests : List ℕ → Members → List (Option Fault)
 setting_tests path ms = database_fault path ms ∷ bind_fault path ms ∷ accepts_fault path ms ∷ conflicts_fault path ms ∷ []
 
 abbrev pub first_tests : List ℕ → Members → List (Option Fault)
-first_tests path ms = database_fault path ms ∷ bind_fault path ms ∷ accepts_fault path ms ∷ conflicts_fault path ms ∷ sync_fault path ms ∷ []
+first_tests path ms = database_fault path ms ∷ bind_fault path ms ∷ accepts_fault path ms ∷ conflicts_fault path ms ∷ function_fault path ms ∷ []
 
 abbrev pub roles_test : List ℕ → Members → Option Fault
 roles_test path ms = list_fault path (codes "roles") (roles_fault []) (get_member (codes "roles") ms)
@@ -60,7 +60,7 @@ principal_tests path ms = roles_test path ms ∷ users_test path ms ∷ []
 -- the tests of a configuration but the last, for members of other names
 abbrev pub known_tests : List ℕ → Members → List (Option Fault)
 known_tests path ms =
-    database_fault path ms ∷ bind_fault path ms ∷ accepts_fault path ms ∷ conflicts_fault path ms ∷ sync_fault path ms ∷ roles_test path ms ∷ users_test path ms ∷ []
+    database_fault path ms ∷ bind_fault path ms ∷ accepts_fault path ms ∷ conflicts_fault path ms ∷ function_fault path ms ∷ roles_test path ms ∷ users_test path ms ∷ []
 
 -- the settings are those of the members
 pub record HasSettings (ms : Members) (s : Settings) : Type 0 where

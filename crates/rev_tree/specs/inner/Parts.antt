@@ -3,7 +3,7 @@ use Rattle.std.specs.Prelude.{◌≡◌, Bool, true, false, ◌&&◌, List, [], 
 use Rattle.std.specs.Arc.{arc_value}
 use Rattle.std.specs.declared.sync.Arc.{Arc}
 use Rattle.rev_tree.specs.declared.tree.Node.{Node}
-use Rattle.rev_tree.specs.Rising.{rises}
+use Rattle.rev_tree.specs.Rising.{nodes_rise}
 
 -- the nodes of all parts
 abbrev pub joined : {X Z : Type 0} → (X → List Node) → List (Arc X Z) → List Node
@@ -18,7 +18,7 @@ are_sound sound (part ∷ more) = sound (arc_value part) && are_sound sound more
 -- whether there is a part, each is sound, and their nodes rise
 abbrev pub is_row : {X Z : Type 0} → (X → List Node) → (X → Bool) → List (Arc X Z) → Bool
 is_row nodes sound [] = false
-is_row nodes sound (part ∷ more) = are_sound sound (part ∷ more) && rises (joined nodes (part ∷ more))
+is_row nodes sound (part ∷ more) = are_sound sound (part ∷ more) && nodes_rise (joined nodes (part ∷ more))
 
 -- sound parts that hold these nodes
 pub record AreParts {X Z : Type 0} (nodes : X → List Node) (sound : X → Bool) (parts : List (Arc X Z)) (all : List Node) : Type 0 where

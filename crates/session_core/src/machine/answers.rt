@@ -3,7 +3,7 @@
 ghost use Rattle.std.specs.Prelude.{◌≡◌, ◌≤◌, ◌+◌, Some, IsSome, IfOk, OnOk, OnErr};
 ghost use Rattle.session_core.specs.Running.{Running};
 ghost use Rattle.session_core.specs.State.{Awaits, IsReply, most_puts, most_requests};
-ghost use Rattle.session_core.specs.Transitions.{IsDone, IsFirst, BeginsBy, going_on, on_next_look, on_fed, on_bodies, on_answer};
+ghost use Rattle.session_core.specs.Transitions.{IsDone, AwaitsFirst, BeginsBy, going_on, on_next_look, on_fed, on_bodies, on_answer};
 
 use super::{Core, Pending, put, set};
 use crate::act::Acts;
@@ -53,7 +53,7 @@ impl Core {
 
     /// The feed that was asked for begins with these rows of its first look.
     fn begin(&mut self, rows: Rows, front: u64)
-        requires awaited { IsFirst self.old.pending }
+        requires awaited { AwaitsFirst self.old.pending }
         requires room { self.old.requests ≤ most_requests }
         ensures { BeginsBy self.old rows front self.old.pending self.new }
     {

@@ -76,7 +76,7 @@ impl Core {
         requires room { self.old.requests ≤ most_requests }
         requires few { count ≤ 10000 }
         ensures ok { IfOk result (λ done. (r : Running) × (self.old.feed ≡ Some r)
-            × IsDone (does.answered self.old acts.items (self.old.requests + count) (rest r))
+            × IsDone (does.answer_done self.old acts.items (self.old.requests + count) (rest r))
             self.new done) }
         ensures few { OnOk result (self.new.requests ≤ self.old.requests + count + 1) }
         ensures err { OnErr result (self.new ≡ self.old) }

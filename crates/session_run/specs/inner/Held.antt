@@ -22,7 +22,7 @@ use Rattle.session_core.specs.declared.machine.Pending.TheVariants as pending
 use Rattle.session_core.specs.Conduct.{due_with, feed_front, most_answers, WantsFor, AreWithin}
 use Rattle.session_core.specs.Fronts.{looks_of, stored_of, front_by}
 use Rattle.session_core.specs.State.{new_machine, most_puts}
-use Rattle.session_core.specs.Steps.{Step, Steps, Leads, put_by, wanted_after}
+use Rattle.session_core.specs.Steps.{SessionStep, Steps, Leads, put_by, wanted_after}
 use Rattle.session_mux.specs.declared.mux.Mux.{Mux}
 use Rattle.session_mux.specs.Frames.{IsBadFrame}
 use Rattle.session_mux.specs.Muxed.{IsNoBadAck}
@@ -31,11 +31,11 @@ use Rattle.session_run.specs.declared.ended.End.{End}
 use Rattle.session_run.specs.declared.ended.End.TheVariants as end
 use Rattle.session_run.specs.declared.serve.Setup.{Setup}
 use Rattle.session_run.specs.declared.session.Session.{Session}
-use Rattle.session_run.specs.Answered.{Moment, HasRead, AreAnswered}
+use Rattle.session_run.specs.Answered.{Moment, HasReadGround, AreAnswered}
 use Rattle.session_run.specs.inner.Putting.{put_as, MayReply}
 use Rattle.session_run.specs.Spent.{most_looks, spent_of, NeedsMore}
-use Rattle.session_run.specs.Served.{are_frames, bytes_of, IsServed}
-use Rattle.session_run.specs.Turns.{SessionTurn, undone, steps_of, frames_of, framed, framed_by, events_of, IsExchange, IsFor, AreLed, AreJoined, AreSent, puts_all, done_in}
+use Rattle.session_run.specs.Served.{are_frames, frame_bytes, IsServed}
+use Rattle.session_run.specs.Turns.{SessionTurn, undone, steps_of, turn_frames, framed, framed_by, events_of, IsExchange, IsFor, AreLed, AreJoined, AreSent, puts_all, done_in}
 
 -- ---- steps
 
@@ -46,7 +46,7 @@ pub record IsReady (s : Session) : Type 0 where
 
 -- an event was taken, and what is put for it was put
 pub record Makes (old new : Session) (event : Event) (want : Option Want) : Type 0 where
-  pub step : Step
+  pub step : SessionStep
   pub steps : Steps old.core step new.core
   pub event_is : step.event ≡ event
   pub want_is : step.want ≡ want
@@ -57,10 +57,10 @@ pub record Makes (old new : Session) (event : Event) (want : Option Want) : Type
 
 -- memory ran out as an event was taken: nothing was done for it, or it was taken and not all was put
 abbrev pub Halts : Session → Session → Event → Type 0
-Halts old new event = (new.core ≡ old.core) ⊎ ((s : Step) × Steps old.core s new.core × (s.event ≡ event))
+Halts old new event = (new.core ≡ old.core) ⊎ ((s : SessionStep) × Steps old.core s new.core × (s.event ≡ event))
 
 -- steps were made for an event; in the last one, where memory ran out, nothing more was done
-pub record Conversed (program : Program) (old new : Session) (first : Event) (before now : Moment) (steps : List Step) (halted : Option Event) : Type 0 where
+pub record Conversed (program : Program) (old new : Session) (first : Event) (before now : Moment) (steps : List SessionStep) (halted : Option Event) : Type 0 where
   pub leads : Leads old.core steps new.core
   pub exchange : IsExchange first (undone halted ++ steps)
   pub answered : AreAnswered before old.core.user program old.core.strict (undone halted ++ steps) now
@@ -69,7 +69,7 @@ pub record Conversed (program : Program) (old new : Session) (first : Event) (be
   pub spent : new.listing.spent ≡ old.listing.spent + spent_of (undone halted ++ steps)
 
 -- so far all went well, and this is wanted
-pub record Conversing (program : Program) (old new : Session) (first : Event) (before now : Moment) (want : Option Want) (steps : List Step) : Type 0 where
+pub record Conversing (program : Program) (old new : Session) (first : Event) (before now : Moment) (want : Option Want) (steps : List SessionStep) : Type 0 where
   pub conversed : Conversed program old new first before now steps None
   pub user : new.core.user ≡ old.core.user
   pub strict : new.core.strict ≡ old.core.strict
@@ -89,12 +89,12 @@ pub record IsAtRest (s : Session) : Type 0 where
   pub ready : IsReady s
   pub idle : picked s.mux.outbox ≡ None
 
-abbrev pub IsCalled : Option Event → List Step → Type 0
+abbrev pub IsCalled : Option Event → List SessionStep → Type 0
 IsCalled None steps = steps ≡ []
 IsCalled (Some first) steps = IsExchange first steps
 
 -- steps were made for an event, if there was one, and frames were sent, until this was left
-pub record Went (program : Program) (old new : Session) (first : Option Event) (before final : Moment) (traffic traffic_after : Option Traffic) (steps : List Step) (halted : Option Event) (left : Sending) (failed : List Gave) : Type 0 where
+pub record Went (program : Program) (old new : Session) (first : Option Event) (before final : Moment) (traffic traffic_after : Option Traffic) (steps : List SessionStep) (halted : Option Event) (left : Sending) (failed : List Gave) : Type 0 where
   pub now : Moment
   pub frames : List FrameParts
   pub sent : List (List ℕ)
@@ -102,7 +102,7 @@ pub record Went (program : Program) (old new : Session) (first : Option Event) (
   pub leads : Leads old.core steps new.core
   pub called : IsCalled first (undone halted ++ steps)
   pub answered : AreAnswered before old.core.user program old.core.strict (undone halted ++ steps) now
-  pub reads : HasRead now final
+  pub reads : HasReadGround now final
   pub looks : new.listing.looks ≡ old.listing.looks ++ looks_of (undone halted ++ steps)
   pub stored : new.listing.stored ≡ old.listing.stored ++ stored_of (undone halted ++ steps)
   pub spent : new.listing.spent ≡ old.listing.spent + spent_of (undone halted ++ steps)
@@ -113,17 +113,17 @@ pub record Went (program : Program) (old new : Session) (first : Option Event) (
 -- all was sent that may be sent, or the session ends
 abbrev pub GoesOn : Program → Session → Session → Option Event → Moment → Moment → Option Traffic → Option Traffic → Option End → Type 0
 GoesOn program old new first before final traffic traffic_after None =
-    (steps : List Step) × (went : Went program old new first before final traffic traffic_after steps None new.mux.outbox []) × (went.value ≡ new.mux.sent.value) × IsAtRest new
+    (steps : List SessionStep) × (went : Went program old new first before final traffic traffic_after steps None new.mux.outbox []) × (went.value ≡ new.mux.sent.value) × IsAtRest new
     × (went.now ≡ final) × (new.mux.inbox ≡ expecting_all (put_by steps) old.mux.inbox) × (feed_front new.core.feed ≤ final.lowest)
     × (new.core.requests ≤ old.core.requests + 3 * most_puts)
 GoesOn program old new first before final traffic traffic_after (Some end.WireFault) =
-    (steps : List Step) × (left : Sending) × (went : Went program old new first before final traffic traffic_after steps None left (gave.Failed ∷ []))
+    (steps : List SessionStep) × (left : Sending) × (went : Went program old new first before final traffic traffic_after steps None left (gave.Failed ∷ []))
     × ((new.core.pending ≡ pending.Nothing) ⊎ NeedsMore new.listing.spent steps) × (went.now ≡ final)
 GoesOn program old new first before final traffic traffic_after (Some end.LooksFull) =
-    (steps : List Step) × (left : Sending) × (went : Went program old new first before final traffic traffic_after steps None left []) × (picked left ≡ None)
+    (steps : List SessionStep) × (left : Sending) × (went : Went program old new first before final traffic traffic_after steps None left []) × (picked left ≡ None)
     × NeedsMore new.listing.spent steps × (went.now ≡ final)
 GoesOn program old new first before final traffic traffic_after (Some end.Memory) =
-    (steps : List Step) × (halted : Option Event) × (left : Sending) × Went program old new first before final traffic traffic_after steps halted left []
+    (steps : List SessionStep) × (halted : Option Event) × (left : Sending) × Went program old new first before final traffic traffic_after steps halted left []
 GoesOn program old new first before final traffic traffic_after (Some other) = ⊥
 
 -- the frame was read and gave this, or the moment was idle
@@ -147,7 +147,7 @@ pub record Turned (program : Program) (old new : Session) (result : Got) (before
   pub leads : Leads old.core t.steps new.core
   pub called : IsFor old.core t.frame t.given (undone halted ++ t.steps)
   pub answered : AreAnswered before old.core.user program old.core.strict (undone halted ++ t.steps) now
-  pub reads : HasRead now final
+  pub reads : HasReadGround now final
   pub looks : new.listing.looks ≡ old.listing.looks ++ looks_of (undone halted ++ t.steps)
   pub stored : new.listing.stored ≡ old.listing.stored ++ stored_of (undone halted ++ t.steps)
   pub spent : new.listing.spent ≡ old.listing.spent + spent_of (undone halted ++ t.steps)
@@ -207,10 +207,10 @@ pub record Holds (setup : Setup) (start now : Moment) (s : Session) (turns : Lis
   pub stored : s.listing.stored ≡ stored_of (steps_of turns)
   pub spent : s.listing.spent ≡ spent_of (steps_of turns)
   pub few : s.listing.spent ≤ most_looks
-  pub count : s.frames ≡ length (frames_of turns)
+  pub count : s.frames ≡ length (turn_frames turns)
   pub taken : are_frames results ≡ true
   pub kinds : framed_by results ≡ framed turns
-  pub read : (later : List (List ℕ)) → frames_at 0 (bytes_of results ++ later) ≡ with_front (frames_of turns) (frames_at s.mux.received.value later)
+  pub read : (later : List (List ℕ)) → frames_at 0 (frame_bytes results ++ later) ≡ with_front (turn_frames turns) (frames_at s.mux.received.value later)
   pub put : AreSent turns frames s.mux.outbox
   pub written : AreWrittenAfter [] sent frames
   pub checked : s.mux.sent.value ≡ checksum (all_sent [] frames)

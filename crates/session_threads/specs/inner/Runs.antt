@@ -3,7 +3,7 @@ use Rattle.std.specs.Prelude.{◌≡◌, ◌<◌, ◌+◌, ◌*◌, ◌^◌, ℕ
 use Rattle.atomic_table.specs.Seated.{TableId}
 use Rattle.sg_outside.specs.Wire.{Traffic}
 use Rattle.sg_history.specs.Board.{BoardState}
-use Rattle.seq_gate.specs.Passes.{Closes, joined, share, split_off}
+use Rattle.seq_gate.specs.Passes.{Closes, joined_passes, share, split_off}
 use Rattle.seq_gate.specs.Views.{PassView}
 use Rattle.seq_gate.specs.declared.known.Known.{Known}
 use Rattle.principals.specs.declared.admin_line.AdminLine.{AdminLine}
@@ -21,7 +21,7 @@ use Rattle.session_run.specs.Answered.{Moment, moment}
 use Rattle.session_run.specs.Served.{IsServed}
 use Rattle.session_threads.specs.declared.played.LineOutcome.{LineOutcome}
 use Rattle.session_threads.specs.declared.played.LineOutcome.TheVariants.{Plain}
-use Rattle.session_threads.specs.OwnRevisions.{revision_of}
+use Rattle.session_threads.specs.OwnRevisions.{own_revision}
 use Rattle.session_threads.specs.Pairs.{AllPairs}
 use Rattle.session_threads.specs.Played.{Device, IsSetup, Leaves}
 
@@ -36,7 +36,7 @@ abbrev pub IsLineRun : Program → Bool → Moment → AdminLine → Outcome →
 IsLineRun program strict before (line.Command c) answer after =
     Commands before.read after.read before.lowest after.lowest before.own after.own before.recorded (entry_of c) answer
 IsLineRun program strict before (line.Doc doc parent deleted body) answer after =
-    Stores before.read after.read before.lowest after.lowest before.own after.own before.recorded program strict None (revision_of doc parent deleted body) answer
+    Stores before.read after.read before.lowest after.lowest before.own after.own before.recorded program strict None (own_revision doc parent deleted body) answer
 
 -- lines were run one after another
 abbrev pub AreLinesRun : Program → Bool → Moment → List AdminLine → List LineOutcome → Moment → Type 0
@@ -93,7 +93,7 @@ pub record Gone : Type 0 where
 -- a pass that took in these, one after another
 abbrev pub joined_all : Known → List Known → Known
 joined_all p [] = p
-joined_all p (q ∷ others) = joined_all (joined p q) others
+joined_all p (q ∷ others) = joined_all (joined_passes p q) others
 
 -- a session was served with a pass that knew this
 pub record IsGone (before : Known) (begun : Begun) (gone : Gone) : Type 0 where
@@ -112,7 +112,7 @@ pub record AreThreaded (gate : TableId) (first : Known) (program : Program) (str
   pub leaves_are : leaves ≡ map (λ (g : Gone). g.leaves) gone
   pub rest : Known
   pub less : IsLessBy first (length begun + 1) rest
-  pub joined_are : pass.knows ≡ joined_all (joined rest script.knows) (map (λ (g : Gone). g.knows) gone)
+  pub joined_are : pass.knows ≡ joined_all (joined_passes rest script.knows) (map (λ (g : Gone). g.knows) gone)
 
 -- The same behind a gate that was opened with a pass that knew this, and closed with a board.
 pub record AreClosed (first : Known) (program : Program) (strict : Bool) (lines : List AdminLine) (begun : List Begun) (closed : BoardState) (outcomes : List LineOutcome) (leaves : List Leaves) : Type 0 where

@@ -10,7 +10,7 @@ use Rattle.sync_values.specs.declared.callee.Target.{Target}
 use Rattle.sync_values.specs.declared.callee.Target.TheVariants as t
 use Rattle.sync_values.specs.declared.value.Value.{Value}
 use Rattle.sync_values.specs.Found.{Found}
-use Rattle.sync_values.specs.Values.{added, calculated, indexed, truth}
+use Rattle.sync_values.specs.Values.{added_values, calculated, indexed, truth}
 use Rattle.sync_meaning.specs.declared.completion.Completion.{Completion}
 use Rattle.sync_meaning.specs.declared.scope.Scope.{Scope}
 use Rattle.sync_meaning.specs.Acts.{Act, ◌>>=◌, ◌>>◌, pure, lift}
@@ -46,7 +46,7 @@ assigned scope n found = do
 abbrev pub add_value : ℕ → Scope → Named → Value → Expr → Act (Unit {0})
 add_value depth scope n x e = do
   y ← value_to depth scope e
-  assigned scope n (added n.place x y)
+  assigned scope n (added_values n.place x y)
 
 -- `-=`, with what the variable held
 abbrev pub subtract_value : ℕ → Scope → Named → Value → Expr → Act (Unit {0})

@@ -16,7 +16,7 @@ use Rattle.sync_values.specs.Values.{found_then}
 use Rattle.sync_meaning.specs.declared.arguments.Kind.{Kind}
 use Rattle.sync_meaning.specs.declared.arguments.Kind.TheVariants as kind
 use Rattle.sync_meaning.specs.declared.effects.Effects.{Effects}
-use Rattle.sync_meaning.specs.Builtins.{itself, bare_role, grantee_of, is_in, one, for_each, add_channel, add_grant, add_role}
+use Rattle.sync_meaning.specs.Builtins.{itself, bare_role, grantee_of, is_one_of, one, for_each, add_channel, add_grant, add_role}
 
 -- the texts that are borrowed
 abbrev pub texts : List (Bor (List ℕ)) → List (List ℕ)
@@ -38,7 +38,7 @@ admits kind.Grantee = λ t. is_grantee (grantee_of t)
 
 -- the same names, in any order, each once or more often
 abbrev pub AreSame : List (List ℕ) → List (List ℕ) → Type 0
-AreSame xs ys = (x : List ℕ) → is_in xs x ≡ is_in ys x
+AreSame xs ys = (x : List ℕ) → is_one_of xs x ≡ is_one_of ys x
 
 -- each name comes strictly before the next, by bytes
 abbrev pub AreSorted : List (List ℕ) → Type 0

@@ -7,7 +7,7 @@ use Rattle.ws_door.specs.declared.heads.HeadFault.{HeadFault}
 use Rattle.ws_door.specs.declared.head_reader.ByteRead.{ByteRead}
 use Rattle.ws_door.specs.declared.head_reader.ByteRead.TheVariants as byte
 use Rattle.ws_door.specs.declared.head_reader.HeadReader.{HeadReader}
-use Rattle.ws_door.specs.Heads.{bytes_of, is_idle, is_single, ending, head_in, head_behind, bytes_in, idle_in}
+use Rattle.ws_door.specs.Heads.{read_bytes, is_idle, is_single, ending, head_in, head_behind, bytes_in, idle_in}
 
 -- the result of reading one byte
 abbrev pub line_read : ByteRead → LineRead
@@ -37,7 +37,7 @@ Continues before (Err fault) after = Unit {0}
 
 -- this result was added
 pub record Adds (before : HeadReader) (read : LineRead) (answer : Result Bool HeadFault) (after : HeadReader) : Type 0 where
-  pub bytes : after.bytes.items ≡ before.bytes.items ++ bytes_of read
+  pub bytes : after.bytes.items ≡ before.bytes.items ++ read_bytes read
   pub idle : after.idle ≡ before.idle + count_by is_idle (read ∷ [])
   pub ending_is : answer_of answer after.bytes.items ≡ ending before.bytes.items before.idle read
   pub continues : Continues before answer after

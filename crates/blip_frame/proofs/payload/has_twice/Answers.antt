@@ -5,7 +5,7 @@ use Rattle.std.specs.Str.{bytes_eq}
 use Rattle.std.specs.BTreeSet.{contains_by}
 use Rattle.std.proofs.lemmas.Bool.{not-true, not-false}
 use Rattle.std.proofs.lemmas.Map.Text.{is_eq-slice_cmp}
-use Rattle.blip_frame.specs.Payload.{texts_of}
+use Rattle.blip_frame.specs.Payload.{closed_texts}
 use Rattle.blip_frame.proofs.Blocks.{still_even, found_twice, more_keys, none_twice, member_more}
 use Rattle.blip_frame.proofs.payload.has_twice.Goals as goal
 
@@ -14,15 +14,15 @@ returns-then-not-branch c =
     let key = c.first_text.result.0 in
     let keys = c.loop-rest.invariant.keys in
     let there : contains_by (λ k. slice_cmp nat_cmp key.now k.now) c.loop-rest.seen ≡ true = not-false _ (sym c.in_ok-insert.ensures.added ∙ c.if-not-branch.true) in
-    found_twice (texts_of c.loop-rest.rest.now) (texts_of c.first_text.result.1.now) (texts_of c.first_text-in-loop-rest.result.1.now) key.now c.first_text-in-loop-rest.result.0.now c.first_text.ensures.texts c.first_text-in-loop-rest.ensures.texts keys.0 _ keys.1
+    found_twice (closed_texts c.loop-rest.rest.now) (closed_texts c.first_text.result.1.now) (closed_texts c.first_text-in-loop-rest.result.1.now) key.now c.first_text-in-loop-rest.result.0.now c.first_text.ensures.texts c.first_text-in-loop-rest.ensures.texts keys.0 _ keys.1
     (sym (keys.2 key) ∙ there)
 
 pub loop-rest-preserved : goal.loop-rest-preserved
 loop-rest-preserved c =
     let key = c.first_text.result.0 in
-    let all = texts_of c.loop-rest.rest.now in
-    let after_key = texts_of c.first_text.result.1.now in
-    let after = texts_of c.first_text-in-loop-rest.result.1.now in
+    let all = closed_texts c.loop-rest.rest.now in
+    let after_key = closed_texts c.first_text.result.1.now in
+    let after = closed_texts c.first_text-in-loop-rest.result.1.now in
     let value = c.first_text-in-loop-rest.result.0.now in
     let first = c.first_text.ensures.texts in
     let second = c.first_text-in-loop-rest.ensures.texts in

@@ -1,7 +1,7 @@
 use Rattle.std.proofs.Common.{◌≡◌, ◌∙◌, ℕ, List, length, refl, sym, ap, subst}
 use Rattle.std.specs.Prelude.{string_bytes}
 use Rattle.checkpoint_store.specs.declared.answers.SetAnswer.TheVariants.{Set}
-use Rattle.checkpoint_store.specs.SideMaps.{number_at}
+use Rattle.checkpoint_store.specs.SideMaps.{side_number}
 use Rattle.checkpoint_store.specs.Checkpoints.{AreCheckpoints}
 use Rattle.checkpoint_store.specs.Answers.{answer_of}
 use Rattle.checkpoint_store.specs.Stored.{side_of}
@@ -24,7 +24,7 @@ returns-in-Ok c =
     let after = side_of c.insert.new.kept.entries in
     let key = string_bytes c.args.key in
     let is = by_text side c.as_str.result.now key c.args.rev c.args.body c.answer-answered.result c.as_str.ensures.value c.requires.small c.answer-answered.ensures in
-    let next : answer_of (number_at side key) (length side) c.args.rev ≡ Set c.in-Set.next = ap (λ (t : List ℕ). answer_of (number_at side t) (length side) c.args.rev) (sym c.as_str.ensures.value) ∙ sym c.answer-answered.ensures ∙ c.in-Set.is in
+    let next : answer_of (side_number side key) (length side) c.args.rev ≡ Set c.in-Set.next = ap (λ (t : List ℕ). answer_of (side_number side t) (length side) c.args.rev) (sym c.as_str.ensures.value) ∙ sym c.answer-answered.ensures ∙ c.in-Set.is in
     record {
       sets = is_put side after key c.args.rev c.args.body c.in-Set.next (Set c.in-Set.next) refl (sym c.in-Set.is ∙ is) c.in-Ok.ensures.put;
       checkpoints = set_checkpoints side after key c.args.body c.args.rev c.in-Set.next c.requires.checkpoints c.requires.pair c.requires.small next c.in-Ok.ensures.put c.insert.ensures.rising c.in-Ok.ensures.count;

@@ -6,7 +6,7 @@ use Rattle.sg_history.specs.declared.entries.Entry.{Entry}
 use Rattle.rev_tree.specs.declared.tree.Node.{Node}
 use Rattle.doc_board.specs.Candidates.{ExtendsTree}
 use Rattle.doc_board.specs.Kept.{AreKept, kept_nodes}
-use Rattle.doc_board.specs.Recorded.{IsNextWrite}
+use Rattle.doc_board.specs.Recorded.{IsFollowingWrite}
 use Rattle.rev_tree.specs.Documents.{tree_at}
 use Rattle.doc_board.proofs.Documents.{kept_with, accepted_with, place_made, nodes_found}
 use Rattle.doc_board.proofs.open.take_write.Goals as goal
@@ -36,8 +36,8 @@ returns-in-Ok-clause-yes c = λ _.
     let es : List Entry = reverse c.args.older.now in
     let w = c.args.write.now in
     let nodes : List Node = kept_nodes (get_by_text c.args.documents.now w.doc) in
-    let E : Option (List Node) → Type 0 = λ o. IfSome o (λ after. IsNextWrite nodes w) in
-    let F : List Node → Type 0 = λ before. IsNextWrite before w in
+    let E : Option (List Node) → Type 0 = λ o. IfSome o (λ after. IsFollowingWrite nodes w) in
+    let F : List Node → Type 0 = λ before. IsFollowingWrite before w in
     (subst F (nodes_found es c.args.documents.now w.doc c.requires.kept) (subst E c.in-Some.is c.in_ok-tree.ensures.next), refl)
 
 pub returns-in_default-clause-no : goal.returns-in_default-clause-no
@@ -45,6 +45,6 @@ returns-in_default-clause-no c = λ _ may.
     let es : List Entry = reverse c.args.older.now in
     let w = c.args.write.now in
     let nodes : List Node = kept_nodes (get_by_text c.args.documents.now w.doc) in
-    let E : Option (List Node) → Type 0 = λ o. IfNone o (¬ IsNextWrite nodes w) in
-    let F : List Node → Type 0 = λ before. ¬ IsNextWrite before w in
+    let E : Option (List Node) → Type 0 = λ o. IfNone o (¬ IsFollowingWrite nodes w) in
+    let F : List Node → Type 0 = λ before. ¬ IsFollowingWrite before w in
     subst F (nodes_found es c.args.documents.now w.doc c.requires.kept) (subst E c.in_default.is c.in_ok-tree.ensures.none) may.0

@@ -1,5 +1,5 @@
 use Rattle.std.proofs.Common.{◌⊎◌, [], ◌∷◌, inl, inr}
-use Rattle.command_line.specs.Loads.{AreAccepted, IsStopped}
+use Rattle.command_line.specs.Loads.{AreAcceptedLoads, IsStopped}
 use Rattle.replay_command.specs.Inputs.{IsBadFileAt, IsGoodFile}
 use Rattle.replay_command.proofs.Loading.{only}
 use Rattle.gateway_app.specs.Serves.{EndsServing}
@@ -17,14 +17,14 @@ pub returns-in-Ok-clause-loads : goal.returns-in-Ok-clause-loads
 returns-in-Ok-clause-loads g c =
     let recorded = g.F.Files.recorded c.args.files.now in
     let paths = c.args.path.now ∷ [] in
-    only (λ d. AreAccepted recorded IsGoodFile IsBadFileAt 1 paths d) (λ d. (AreAccepted recorded IsGoodFile IsBadFileAt 1 paths d × EndsServing c.serve_config-status.result) ⊎ IsStopped recorded IsGoodFile IsBadFileAt 1 paths d c.serve_config-status.result) _ _
+    only (λ d. AreAcceptedLoads recorded IsGoodFile IsBadFileAt 1 paths d) (λ d. (AreAcceptedLoads recorded IsGoodFile IsBadFileAt 1 paths d × EndsServing c.serve_config-status.result) ⊎ IsStopped recorded IsGoodFile IsBadFileAt 1 paths d c.serve_config-status.result) _ _
     (λ d are. inl (are, c.serve_config-status.ensures.status)) c.in-Ok.ensures.loads
 
 pub returns-in-Err-clause-loads : goal.returns-in-Err-clause-loads
 returns-in-Err-clause-loads g c =
     let recorded = g.F.Files.recorded c.args.files.now in
     let paths = c.args.path.now ∷ [] in
-    only (λ d. IsStopped recorded IsGoodFile IsBadFileAt 1 paths d c.in-Err.status) (λ d. (AreAccepted recorded IsGoodFile IsBadFileAt 1 paths d × EndsServing c.in-Err.status) ⊎ IsStopped recorded IsGoodFile IsBadFileAt 1 paths d c.in-Err.status) _ _
+    only (λ d. IsStopped recorded IsGoodFile IsBadFileAt 1 paths d c.in-Err.status) (λ d. (AreAcceptedLoads recorded IsGoodFile IsBadFileAt 1 paths d × EndsServing c.in-Err.status) ⊎ IsStopped recorded IsGoodFile IsBadFileAt 1 paths d c.in-Err.status) _ _
     (λ d stopped. inr stopped) c.in-Err.ensures.loads
 
 pub returns-in-Ok-clause-counted : goal.returns-in-Ok-clause-counted

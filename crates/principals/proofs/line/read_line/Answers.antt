@@ -1,7 +1,7 @@
 use Rattle.std.proofs.Common.{subst, IfErr, sym, arith}
 use Rattle.std.proofs.lemmas.List.{length-take-le}
 use Rattle.sg_history.specs.Faults.{HasReason}
-use Rattle.principals.specs.Faults.{IsFault}
+use Rattle.principals.specs.Faults.{IsScriptFault}
 use Rattle.principals.proofs.Texts.{lines_read}
 use Rattle.principals.proofs.line.read_line.Goals as goal
 
@@ -16,4 +16,4 @@ returns-in-Some-clause-ok c = lines_read c.read_fields.result _ c.args.line.now 
 
 pub returns-in-Some-clause-reason : goal.returns-in-Some-clause-reason
 returns-in-Some-clause-reason c =
-    subst (λ fields. IfErr c.read_fields.result (HasReason (IsFault fields))) c.in-Some.ensures.all c.read_fields.ensures.reason
+    subst (λ fields. IfErr c.read_fields.result (HasReason (IsScriptFault fields))) c.in-Some.ensures.all c.read_fields.ensures.reason

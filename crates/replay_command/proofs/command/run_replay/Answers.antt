@@ -1,7 +1,7 @@
 use Rattle.replay.specs.Replay.{IsReplay}
 use Rattle.replay_command.specs.Loading.{inputs_of}
 use Rattle.std.proofs.Common.{inl, inr}
-use Rattle.command_line.specs.Loads.{AreAccepted, EndsLoads, IsStopped}
+use Rattle.command_line.specs.Loads.{AreAcceptedLoads, EndsLoads, IsStopped}
 use Rattle.command_line.specs.ReplayRequest.{replay_of}
 use Rattle.replay_command.specs.Inputs.{IsBadFileAt, IsGoodFile, paths_of}
 use Rattle.replay_command.proofs.Endings.{not_read, printed_status, replayed}
@@ -20,7 +20,7 @@ pub returns-in-Ok-clause-loads : goal.returns-in-Ok-clause-loads
 returns-in-Ok-clause-loads g c =
     let recorded = g.F.Files.recorded c.args.files.now in
     let paths = paths_of (replay_of c.args.request.now) in
-    only (λ d. AreAccepted recorded IsGoodFile IsBadFileAt 1 paths d) (λ d. EndsLoads recorded IsGoodFile IsBadFileAt 1 paths d c.print_replay.result) _ _
+    only (λ d. AreAcceptedLoads recorded IsGoodFile IsBadFileAt 1 paths d) (λ d. EndsLoads recorded IsGoodFile IsBadFileAt 1 paths d c.print_replay.result) _ _
     (λ d are. inl (are, printed_status IsReplay c.print_replay.result (inputs_of c.in-Ok.inputs) _ _ _ _ c.print_replay.ensures)) c.in-Ok.ensures.loads
 
 pub returns-in-Err-clause-loads : goal.returns-in-Err-clause-loads

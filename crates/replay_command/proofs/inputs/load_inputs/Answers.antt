@@ -1,7 +1,7 @@
 use Rattle.std.proofs.Common.{◌≡◌, ◌∙◌, ◌++◌, ◌∷◌, [], ℕ, List, Bor, Option, map, subst, sym}
 use Rattle.std.proofs.lemmas.Result.{err_from_is_err_and}
 use Rattle.sg_outside.specs.Files.{Load}
-use Rattle.command_line.specs.Loads.{AreAccepted, IsStopped}
+use Rattle.command_line.specs.Loads.{AreAcceptedLoads, IsStopped}
 use Rattle.replay_command.specs.Inputs.{HaveFiles, IsBadFileAt, IsGoodFile}
 use Rattle.replay_command.proofs.Loading.{accepted_all, both, only, stopped_before, stopped_behind}
 use Rattle.replay_command.proofs.Reading.{config_failed, script_failed, sessions_failed}
@@ -48,7 +48,7 @@ returns-in-Err-clause-loads g c =
     let rest = map (λ (s : Bor (List ℕ)). s.now) c.args.request.now.sessions.items in
     let second : (e : List Load) × (g.F.Files.loads c.load_script.new.files ≡ g.F.Files.loads c.load_config.new.files ++ e) × IsStopped recorded IsGoodFile IsBadFileAt 2 (admin ∷ []) e c.in-Err.status =
     subst (λ (r : Option (List ℕ → Option (List ℕ))). (e : List Load) × (g.F.Files.loads c.load_script.new.files ≡ g.F.Files.loads c.load_config.new.files ++ e) × IsStopped r IsGoodFile IsBadFileAt 2 (admin ∷ []) e c.in-Err.status) c.in_ok-config.ensures.kept c.in-Err.ensures.loads in
-    both (λ d. AreAccepted recorded IsGoodFile IsBadFileAt 1 (config ∷ []) d) (λ e. IsStopped recorded IsGoodFile IsBadFileAt 2 (admin ∷ []) e c.in-Err.status) (λ f. IsStopped recorded IsGoodFile IsBadFileAt 1 (config ∷ admin ∷ rest) f c.in-Err.status) _ _ _
+    both (λ d. AreAcceptedLoads recorded IsGoodFile IsBadFileAt 1 (config ∷ []) d) (λ e. IsStopped recorded IsGoodFile IsBadFileAt 2 (admin ∷ []) e c.in-Err.status) (λ f. IsStopped recorded IsGoodFile IsBadFileAt 1 (config ∷ admin ∷ rest) f c.in-Err.status) _ _ _
     (λ d e are stopped. stopped_before recorded IsGoodFile IsBadFileAt 1 (config ∷ admin ∷ []) rest (d ++ e) c.in-Err.status (stopped_behind recorded IsGoodFile IsBadFileAt 1 (config ∷ []) (admin ∷ []) d e c.in-Err.status are stopped))
     c.in_ok-config.ensures.loads second
 
@@ -58,17 +58,17 @@ returns-in-Err-load_sessions-clause-loads g c =
     let config = c.args.request.now.config.now in
     let admin = c.args.request.now.admin.now in
     let rest = map (λ (s : Bor (List ℕ)). s.now) c.args.request.now.sessions.items in
-    let second : (e : List Load) × (g.F.Files.loads c.load_script.new.files ≡ g.F.Files.loads c.load_config.new.files ++ e) × AreAccepted recorded IsGoodFile IsBadFileAt 2 (admin ∷ []) e =
-    subst (λ (r : Option (List ℕ → Option (List ℕ))). (e : List Load) × (g.F.Files.loads c.load_script.new.files ≡ g.F.Files.loads c.load_config.new.files ++ e) × AreAccepted r IsGoodFile IsBadFileAt 2 (admin ∷ []) e) c.in_ok-config.ensures.kept c.in-Ok.ensures.loads in
-    let two : (e : List Load) × (g.F.Files.loads c.load_script.new.files ≡ g.F.Files.loads c.args.files.now ++ e) × AreAccepted recorded IsGoodFile IsBadFileAt 1 (config ∷ admin ∷ []) e =
-    both (λ d. AreAccepted recorded IsGoodFile IsBadFileAt 1 (config ∷ []) d) (λ e. AreAccepted recorded IsGoodFile IsBadFileAt 2 (admin ∷ []) e) (λ f. AreAccepted recorded IsGoodFile IsBadFileAt 1 (config ∷ admin ∷ []) f) _ _ _
+    let second : (e : List Load) × (g.F.Files.loads c.load_script.new.files ≡ g.F.Files.loads c.load_config.new.files ++ e) × AreAcceptedLoads recorded IsGoodFile IsBadFileAt 2 (admin ∷ []) e =
+    subst (λ (r : Option (List ℕ → Option (List ℕ))). (e : List Load) × (g.F.Files.loads c.load_script.new.files ≡ g.F.Files.loads c.load_config.new.files ++ e) × AreAcceptedLoads r IsGoodFile IsBadFileAt 2 (admin ∷ []) e) c.in_ok-config.ensures.kept c.in-Ok.ensures.loads in
+    let two : (e : List Load) × (g.F.Files.loads c.load_script.new.files ≡ g.F.Files.loads c.args.files.now ++ e) × AreAcceptedLoads recorded IsGoodFile IsBadFileAt 1 (config ∷ admin ∷ []) e =
+    both (λ d. AreAcceptedLoads recorded IsGoodFile IsBadFileAt 1 (config ∷ []) d) (λ e. AreAcceptedLoads recorded IsGoodFile IsBadFileAt 2 (admin ∷ []) e) (λ f. AreAcceptedLoads recorded IsGoodFile IsBadFileAt 1 (config ∷ admin ∷ []) f) _ _ _
     (λ d e are next. accepted_all recorded IsGoodFile IsBadFileAt 1 (config ∷ []) (admin ∷ []) d e are next) c.in_ok-config.ensures.loads second in
     let kept : g.F.Files.recorded c.load_script.new.files ≡ recorded = c.in-Ok.ensures.kept ∙ c.in_ok-config.ensures.kept in
     let s = c.in-Err-load_sessions.status in
     let third : (e : List Load) × (g.F.Files.loads c.load_sessions.new.files ≡ g.F.Files.loads c.load_script.new.files ++ e) × IsStopped recorded IsGoodFile IsBadFileAt 3 rest e s =
     subst (λ (r : Option (List ℕ → Option (List ℕ))). (e : List Load) × (g.F.Files.loads c.load_sessions.new.files ≡ g.F.Files.loads c.load_script.new.files ++ e) × IsStopped r IsGoodFile IsBadFileAt 3 rest e s) kept
     (subst (λ (ps : List (Bor (List ℕ))). (e : List Load) × (g.F.Files.loads c.load_sessions.new.files ≡ g.F.Files.loads c.load_script.new.files ++ e) × IsStopped (g.F.Files.recorded c.load_script.new.files) IsGoodFile IsBadFileAt 3 (map (λ p. p.now) ps) e s) c.as_slice.ensures.value c.in-Err-load_sessions.ensures.loads) in
-    both (λ d. AreAccepted recorded IsGoodFile IsBadFileAt 1 (config ∷ admin ∷ []) d) (λ e. IsStopped recorded IsGoodFile IsBadFileAt 3 rest e s) (λ f. IsStopped recorded IsGoodFile IsBadFileAt 1 (config ∷ admin ∷ rest) f s) _ _ _
+    both (λ d. AreAcceptedLoads recorded IsGoodFile IsBadFileAt 1 (config ∷ admin ∷ []) d) (λ e. IsStopped recorded IsGoodFile IsBadFileAt 3 rest e s) (λ f. IsStopped recorded IsGoodFile IsBadFileAt 1 (config ∷ admin ∷ rest) f s) _ _ _
     (λ d e are stopped. stopped_behind recorded IsGoodFile IsBadFileAt 1 (config ∷ admin ∷ []) rest d e s are stopped) two third
 
 pub returns-in-Ok-load_sessions-clause-loads : goal.returns-in-Ok-load_sessions-clause-loads
@@ -77,14 +77,14 @@ returns-in-Ok-load_sessions-clause-loads g c =
     let config = c.args.request.now.config.now in
     let admin = c.args.request.now.admin.now in
     let rest = map (λ (s : Bor (List ℕ)). s.now) c.args.request.now.sessions.items in
-    let second : (e : List Load) × (g.F.Files.loads c.load_script.new.files ≡ g.F.Files.loads c.load_config.new.files ++ e) × AreAccepted recorded IsGoodFile IsBadFileAt 2 (admin ∷ []) e =
-    subst (λ (r : Option (List ℕ → Option (List ℕ))). (e : List Load) × (g.F.Files.loads c.load_script.new.files ≡ g.F.Files.loads c.load_config.new.files ++ e) × AreAccepted r IsGoodFile IsBadFileAt 2 (admin ∷ []) e) c.in_ok-config.ensures.kept c.in-Ok.ensures.loads in
-    let two : (e : List Load) × (g.F.Files.loads c.load_script.new.files ≡ g.F.Files.loads c.args.files.now ++ e) × AreAccepted recorded IsGoodFile IsBadFileAt 1 (config ∷ admin ∷ []) e =
-    both (λ d. AreAccepted recorded IsGoodFile IsBadFileAt 1 (config ∷ []) d) (λ e. AreAccepted recorded IsGoodFile IsBadFileAt 2 (admin ∷ []) e) (λ f. AreAccepted recorded IsGoodFile IsBadFileAt 1 (config ∷ admin ∷ []) f) _ _ _
+    let second : (e : List Load) × (g.F.Files.loads c.load_script.new.files ≡ g.F.Files.loads c.load_config.new.files ++ e) × AreAcceptedLoads recorded IsGoodFile IsBadFileAt 2 (admin ∷ []) e =
+    subst (λ (r : Option (List ℕ → Option (List ℕ))). (e : List Load) × (g.F.Files.loads c.load_script.new.files ≡ g.F.Files.loads c.load_config.new.files ++ e) × AreAcceptedLoads r IsGoodFile IsBadFileAt 2 (admin ∷ []) e) c.in_ok-config.ensures.kept c.in-Ok.ensures.loads in
+    let two : (e : List Load) × (g.F.Files.loads c.load_script.new.files ≡ g.F.Files.loads c.args.files.now ++ e) × AreAcceptedLoads recorded IsGoodFile IsBadFileAt 1 (config ∷ admin ∷ []) e =
+    both (λ d. AreAcceptedLoads recorded IsGoodFile IsBadFileAt 1 (config ∷ []) d) (λ e. AreAcceptedLoads recorded IsGoodFile IsBadFileAt 2 (admin ∷ []) e) (λ f. AreAcceptedLoads recorded IsGoodFile IsBadFileAt 1 (config ∷ admin ∷ []) f) _ _ _
     (λ d e are next. accepted_all recorded IsGoodFile IsBadFileAt 1 (config ∷ []) (admin ∷ []) d e are next) c.in_ok-config.ensures.loads second in
     let kept : g.F.Files.recorded c.load_script.new.files ≡ recorded = c.in-Ok.ensures.kept ∙ c.in_ok-config.ensures.kept in
-    let third : (e : List Load) × (g.F.Files.loads c.load_sessions.new.files ≡ g.F.Files.loads c.load_script.new.files ++ e) × AreAccepted recorded IsGoodFile IsBadFileAt 3 rest e =
-    subst (λ (r : Option (List ℕ → Option (List ℕ))). (e : List Load) × (g.F.Files.loads c.load_sessions.new.files ≡ g.F.Files.loads c.load_script.new.files ++ e) × AreAccepted r IsGoodFile IsBadFileAt 3 rest e) kept
-    (subst (λ (ps : List (Bor (List ℕ))). (e : List Load) × (g.F.Files.loads c.load_sessions.new.files ≡ g.F.Files.loads c.load_script.new.files ++ e) × AreAccepted (g.F.Files.recorded c.load_script.new.files) IsGoodFile IsBadFileAt 3 (map (λ p. p.now) ps) e) c.as_slice.ensures.value c.in-Ok-load_sessions.ensures.loads) in
-    both (λ d. AreAccepted recorded IsGoodFile IsBadFileAt 1 (config ∷ admin ∷ []) d) (λ e. AreAccepted recorded IsGoodFile IsBadFileAt 3 rest e) (λ f. AreAccepted recorded IsGoodFile IsBadFileAt 1 (config ∷ admin ∷ rest) f) _ _ _
+    let third : (e : List Load) × (g.F.Files.loads c.load_sessions.new.files ≡ g.F.Files.loads c.load_script.new.files ++ e) × AreAcceptedLoads recorded IsGoodFile IsBadFileAt 3 rest e =
+    subst (λ (r : Option (List ℕ → Option (List ℕ))). (e : List Load) × (g.F.Files.loads c.load_sessions.new.files ≡ g.F.Files.loads c.load_script.new.files ++ e) × AreAcceptedLoads r IsGoodFile IsBadFileAt 3 rest e) kept
+    (subst (λ (ps : List (Bor (List ℕ))). (e : List Load) × (g.F.Files.loads c.load_sessions.new.files ≡ g.F.Files.loads c.load_script.new.files ++ e) × AreAcceptedLoads (g.F.Files.recorded c.load_script.new.files) IsGoodFile IsBadFileAt 3 (map (λ p. p.now) ps) e) c.as_slice.ensures.value c.in-Ok-load_sessions.ensures.loads) in
+    both (λ d. AreAcceptedLoads recorded IsGoodFile IsBadFileAt 1 (config ∷ admin ∷ []) d) (λ e. AreAcceptedLoads recorded IsGoodFile IsBadFileAt 3 rest e) (λ f. AreAcceptedLoads recorded IsGoodFile IsBadFileAt 1 (config ∷ admin ∷ rest) f) _ _ _
     (λ d e are next. accepted_all recorded IsGoodFile IsBadFileAt 1 (config ∷ admin ∷ []) rest d e are next) two third

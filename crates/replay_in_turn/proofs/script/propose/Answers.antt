@@ -3,7 +3,7 @@ use Rattle.sg_history.specs.declared.book.Waiting.{Waiting}
 use Rattle.doc_board.specs.Boards.{board_of}
 use Rattle.doc_board.specs.Outcomes.{IsOutcome, bytes_of}
 use Rattle.doc_board.specs.State.{State}
-use Rattle.write_path.specs.Own.{in_order}
+use Rattle.write_path.specs.Own.{own_in_order}
 use Rattle.write_path.proofs.Proposed.{no_rooms, none_waits}
 use Rattle.session_threads.proofs.Alone.{limits_alone}
 use Rattle.replay_in_turn.proofs.Alone.{after_alone, outcome_alone, strict_alone}
@@ -24,7 +24,7 @@ pub returns-clause-own : goal.returns-clause-own
 returns-clause-own c =
     let s : State = c.args.ground.now.board in
     let t : State = c.propose.new.self.board in
-    let O : List Waiting → Type 0 = λ own. t.log ≡ in_order own in
+    let O : List Waiting → Type 0 = λ own. t.log ≡ own_in_order own in
     record {
       pending = none_waits s t c.args.program.now None c.args.revision c.propose.result c.requires.own.pending c.propose.ensures.board;
       rooms = no_rooms s t c.args.program.now None c.args.revision c.propose.result c.requires.own.rooms c.propose.ensures.board;

@@ -2,7 +2,7 @@ use Rattle.std.proofs.Common.{IsTrue, IsUtf8, List, ℕ, subst, sym}
 use Rattle.std.specs.List.{All}
 use Rattle.sg_names.specs.Channels.{is_channels, channels_text}
 use Rattle.sg_names.specs.Grammar.{is_channel_name}
-use Rattle.session_threads.specs.Opening.{IsInOrder}
+use Rattle.session_threads.specs.Opening.{IsSortedOf}
 use Rattle.session_threads.proofs.Orders.{in_order_is, list_is}
 use Rattle.session_threads.proofs.opening.channels_in_order.Goals as goal
 
@@ -12,5 +12,5 @@ returns-clause-grammar c =
     let sorted : List (List ℕ) = c.in_order-channels.result.items in
     let A : List (List ℕ) → Type 0 = λ xs. All (λ n. IsTrue (is_channel_name n) × IsUtf8 n) xs in
     let G : List (List ℕ) → Type 0 = λ xs. IsTrue (is_channels xs) × IsUtf8 (channels_text xs) in
-    let order : IsInOrder given sorted = in_order_is given sorted c.in_order-channels.ensures.among c.in_order-channels.ensures.sorted in
+    let order : IsSortedOf given sorted = in_order_is given sorted c.in_order-channels.ensures.among c.in_order-channels.ensures.sorted in
     subst G (sym c.from_vec.ensures) (list_is (λ n. is_channel_name n) sorted (subst A c.as_slice.ensures.value c.pass_channels.ensures) order.rising)

@@ -1,6 +1,6 @@
 use Rattle.std.proofs.Common.{rules, ◌≡◌, ◌++◌, ◌∷◌, [], ◌∙◌, List, length, map, refl, sym, ap, subst, arith}
 use Rattle.std.proofs.lemmas.List.{append_assoc}
-use Rattle.seq_gate.specs.Passes.{joined}
+use Rattle.seq_gate.specs.Passes.{joined_passes}
 use Rattle.seq_gate.specs.declared.known.Known.{Known}
 use Rattle.session_threads.specs.Pairs.{AllOf}
 use Rattle.session_threads.specs.inner.Runs.{joined_all}
@@ -31,7 +31,7 @@ loop-one-preserved g c =
       all = was.all ∙ ap (λ l. c.loop-one.yielded ++ l) steps.0 ∙ sym (append_assoc c.loop-one.yielded (c.in-Some.one ∷ []) _);
       len = omega (arith, was.len, steps.1, ap (λ l. length l) steps.0);
       others = (subst (λ ds. AllOf (λ d. d.ground.gate ≡ c.args.gate.now) ds) steps.0 was.others).1;
-      knows = c.take_in.ensures.knows ∙ ap (λ (p : Known). joined p c.in-Some.one.ground.knows) was.knows
+      knows = c.take_in.ensures.knows ∙ ap (λ (p : Known). joined_passes p c.in-Some.one.ground.knows) was.knows
           ∙ sym (joined_more c.args.pass.now.knows (map (λ d. d.ground.knows) c.loop-one.yielded) c.in-Some.one.ground.knows)
           ∙ ap (λ (ks : List Known). joined_all c.args.pass.now.knows ks) (sym (map_more (λ d. d.ground.knows) c.loop-one.yielded c.in-Some.one));
       ended = rw (c.push_reserved.ensures.items) (pairs_more _ c.loop-one.yielded _ c.in-Some.one _ was.ended (c.take_in.ensures.wire, c.take_in.ensures.ended, c.take_in.ensures.rests));

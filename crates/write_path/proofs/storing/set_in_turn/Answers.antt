@@ -2,7 +2,7 @@ use Rattle.std.proofs.Common.{◌≡◌, ◌∙◌, ℕ, List, sym, ap, subst}
 use Rattle.sg_history.specs.Board.{BoardState, After}
 use Rattle.seq_gate.specs.Passes.{Finds}
 use Rattle.seq_gate.specs.declared.known.Known.{Known}
-use Rattle.checkpoint_store.specs.Checkpoints.{pair_text}
+use Rattle.checkpoint_store.specs.Checkpoints.{checkpoint_text}
 use Rattle.doc_board.specs.Boards.{board_of}
 use Rattle.doc_board.specs.State.{State}
 use Rattle.write_path.specs.Checkpoints.{IsSetTurn}
@@ -16,7 +16,7 @@ leave-requires-clause-may g c =
     let p : Known = c.args.pass.knows in
     let s : State = c.board.result.now.board in
     let t : State = c.set_checkpoint-answer.new.self.board in
-    let text : List ℕ = pair_text c.args.user.now c.args.client.now in
+    let text : List ℕ = checkpoint_text c.args.user.now c.args.client.now in
     let is = c.set_checkpoint-answer.ensures in
     let here : c.enter-turn.result.found ≡ board_of s = sym c.enter-turn.ensures.board ∙ ap (λ (shelf : Shelved). shelf_state shelf) (sym c.board.ensures.value) in
     let finds : Finds p (board_of s) = subst (λ (b : BoardState). Finds p b) here c.enter-turn.ensures.finds in
@@ -29,7 +29,7 @@ returns-clause-set g c =
     let p : Known = c.args.pass.knows in
     let s : State = c.board.result.now.board in
     let t : State = c.set_checkpoint-answer.new.self.board in
-    let text : List ℕ = pair_text c.args.user.now c.args.client.now in
+    let text : List ℕ = checkpoint_text c.args.user.now c.args.client.now in
     let is = c.set_checkpoint-answer.ensures in
     let here : c.enter-turn.result.found ≡ board_of s = sym c.enter-turn.ensures.board ∙ ap (λ (shelf : Shelved). shelf_state shelf) (sym c.board.ensures.value) in
     let finds : Finds p (board_of s) = subst (λ (b : BoardState). Finds p b) here c.enter-turn.ensures.finds in

@@ -1,7 +1,7 @@
 use Rattle.std.proofs.Common.{ℕ, List, subst, refl}
 use Rattle.std.specs.Prelude.{string_bytes}
 use Rattle.sg_history.specs.Board.{SideEntry}
-use Rattle.checkpoint_store.specs.Checkpoints.{pair_text, AreCheckpoints}
+use Rattle.checkpoint_store.specs.Checkpoints.{checkpoint_text, AreCheckpoints}
 use Rattle.checkpoint_store.specs.Answers.{Sets}
 use Rattle.checkpoint_store.specs.Stored.{side_of}
 use Rattle.checkpoint_store.proofs.Setting.{runs_out}
@@ -19,6 +19,6 @@ returns-in-Ok c = record {
 
 pub returns-in-Err : goal.returns-in-Err
 returns-in-Err c = record {
-  sets = runs_out c.args.self.now c.args.self.now (pair_text c.args.user.now c.args.client.now) c.args.rev c.args.body refl;
+  sets = runs_out c.args.self.now c.args.self.now (checkpoint_text c.args.user.now c.args.client.now) c.args.rev c.args.body refl;
   checkpoints = subst AreCheckpoints c.self.view_is c.self.invariant;
 }

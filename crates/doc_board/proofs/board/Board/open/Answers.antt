@@ -7,7 +7,7 @@ use Rattle.rev_tree.specs.Documents.{writes_of}
 use Rattle.rev_tree.specs.Writes.{AreAccepted}
 use Rattle.doc_board.specs.Boards.{bytes_stored}
 use Rattle.doc_board.specs.Kept.{AreKept}
-use Rattle.doc_board.specs.Recorded.{AreFollowing, IsFirstBad}
+use Rattle.doc_board.specs.Recorded.{AreFollowing, IsFirstRefused}
 use Rattle.doc_board.specs.declared.open.OpenFault.{OpenFault}
 use Rattle.doc_board.proofs.Opening.{memory_alone, opened}
 use Rattle.doc_board.proofs.board.Board.open.Goals as goal
@@ -29,5 +29,5 @@ invariant_of-result c =
 pub returns-in-Err-clause-accepts : goal.returns-in-Err-clause-accepts
 returns-in-Err-clause-accepts c = λ following.
     memory_alone (entries_of c.args.log) c.in-Err.fault
-    (λ sequence is. subst (λ (es : List Entry). IsFirstBad es sequence) c.as_slice.ensures (c.in-Err.ensures.bad sequence (ap (λ (fault : OpenFault). Err fault) is)))
+    (λ sequence is. subst (λ (es : List Entry). IsFirstRefused es sequence) c.as_slice.ensures (c.in-Err.ensures.bad sequence (ap (λ (fault : OpenFault). Err fault) is)))
     following

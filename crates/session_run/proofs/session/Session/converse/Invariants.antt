@@ -1,8 +1,8 @@
 use Rattle.std.proofs.Common.{◌≡◌, ◌≤◌, ◌+◌, ◌*◌, List, None}
 use Rattle.session_core.specs.Conduct.{due_with, feed_front, most_answers, WantsFor}
 use Rattle.session_core.specs.State.{most_puts}
-use Rattle.session_core.specs.Steps.{Step}
-use Rattle.session_run.specs.Answered.{Moment, IsAnswered}
+use Rattle.session_core.specs.Steps.{SessionStep}
+use Rattle.session_run.specs.Answered.{Moment, IsEventAnswered}
 use Rattle.session_run.specs.inner.Held.{IsReady, Conversing}
 use Rattle.session_run.specs.inner.Putting.{MayReply}
 use Rattle.session_run.specs.Spent.{Draws}
@@ -19,9 +19,9 @@ invariant-loop-want g l = record {
   received : l.self.mux.received ≡ l.fn.self.mux.received;
   sent : l.self.mux.sent ≡ l.fn.self.mux.sent;
   draws : Draws (g.G.Ground.origin l.initial.ground) (g.G.Ground.origin l.ground) (g.G.Ground.left l.initial.ground) (g.G.Ground.left l.ground) l.fn.self.listing.spent l.self.listing.spent;
-  run : (before : Moment) → IsAnswered before l.fn.self.core.user l.fn.program l.fn.self.core.strict None l.fn.event
+  run : (before : Moment) → IsEventAnswered before l.fn.self.core.user l.fn.program l.fn.self.core.strict None l.fn.event
       (record { read = g.G.Ground.read l.initial.ground; lowest = g.G.Ground.lowest_front l.initial.ground; recorded = g.G.Ground.recorded l.initial.ground; checkpoints = g.G.Ground.checkpoints l.initial.ground; own = g.G.Ground.own l.initial.ground })
-      → (steps : List Step) × Conversing l.fn.program l.fn.self l.self l.fn.event before
+      → (steps : List SessionStep) × Conversing l.fn.program l.fn.self l.self l.fn.event before
       (record { read = g.G.Ground.read l.ground; lowest = g.G.Ground.lowest_front l.ground; recorded = g.G.Ground.recorded l.ground; checkpoints = g.G.Ground.checkpoints l.ground; own = g.G.Ground.own l.ground }) l.want steps;
 }
 

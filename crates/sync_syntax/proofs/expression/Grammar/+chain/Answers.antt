@@ -1,29 +1,29 @@
 use Rattle.std.proofs.Common.{◌≡◌, ◌-◌, rules, arith}
 use Rattle.std.proofs.lemmas.Grind.{common_steps}
-use Rattle.sync_syntax.specs.Expressions.{chain, chain_in, tails, tails_from}
+use Rattle.sync_syntax.specs.Expressions.{chain_rule, chain_in, tails, tails_from}
 use Rattle.sync_syntax.proofs.Turns.{one_more, no_more, deeper}
 use Rattle.sync_syntax.proofs.expression.Grammar.+chain.Goals as goal
 
 pub chain-returns-then-level-eq0 : goal.chain-returns-then-level-eq0
-unfolding chain
+unfolding chain_rule
 chain-returns-then-level-eq0 g t c =
     let none : c.args.level ≡ 0 = omega arith in
     first_of (search rules, grind (arith, common_steps))
 
 pub chain-returns-in_err-first : goal.chain-returns-in_err-first
-unfolding chain
+unfolding chain_rule
 chain-returns-in_err-first g t c =
     let more = deeper (λ n. chain_in c.args.self.now.room n c.args.tokens.now) c.args.level (omega arith) in
     first_of (search rules, grind (arith, common_steps))
 
 pub chain-returns-in-Err : goal.chain-returns-in-Err
-unfolding chain
+unfolding chain_rule
 chain-returns-in-Err g t c =
     let more = deeper (λ n. chain_in c.args.self.now.room n c.args.tokens.now) c.args.level (omega arith) in
     first_of (search rules, grind (arith, common_steps))
 
 pub chain-returns : goal.chain-returns
-unfolding chain
+unfolding chain_rule
 chain-returns g t c =
     let more = deeper (λ n. chain_in c.args.self.now.room n c.args.tokens.now) c.args.level (omega arith) in
     first_of (search rules, grind (arith, common_steps))

@@ -1,7 +1,7 @@
 use Rattle.std.proofs.Common.{rules, arith}
 use Rattle.std.proofs.lemmas.Grind.{common_steps}
 use Rattle.sync_syntax.specs.Reading.{separated, separated_from}
-use Rattle.sync_syntax.specs.Expressions.{nested, member}
+use Rattle.sync_syntax.specs.Expressions.{nested, member_rule}
 use Rattle.sync_syntax.proofs.Turns.{one_more, no_more}
 use Rattle.sync_syntax.proofs.expression.Grammar.some_members.Goals as goal
 
@@ -12,23 +12,23 @@ loop-turn-init g c = first_of (search rules, grind (arith, common_steps))
 pub returns-in_err-member : goal.returns-in_err-member
 unfolding separated_from
 returns-in_err-member g c =
-    let e = one_more (λ n. separated_from (member (nested c.args.self.now.room)) n c.loop-turn.found c.loop-turn.tokens) _ c.loop-turn._turn c.loop-turn-test.true c.loop-turn.invariant in
+    let e = one_more (λ n. separated_from (member_rule (nested c.args.self.now.room)) n c.loop-turn.found c.loop-turn.tokens) _ c.loop-turn._turn c.loop-turn-test.true c.loop-turn.invariant in
     first_of (search rules, grind (arith, common_steps))
 
 pub returns-then-not-eat : goal.returns-then-not-eat
 unfolding separated_from
 returns-then-not-eat g c =
-    let e = one_more (λ n. separated_from (member (nested c.args.self.now.room)) n c.loop-turn.found c.loop-turn.tokens) _ c.loop-turn._turn c.loop-turn-test.true c.loop-turn.invariant in
+    let e = one_more (λ n. separated_from (member_rule (nested c.args.self.now.room)) n c.loop-turn.found c.loop-turn.tokens) _ c.loop-turn._turn c.loop-turn-test.true c.loop-turn.invariant in
     first_of (search rules, grind (arith, common_steps))
 
 pub loop-turn-preserved : goal.loop-turn-preserved
 unfolding separated_from
 loop-turn-preserved g c =
-    let e = one_more (λ n. separated_from (member (nested c.args.self.now.room)) n c.loop-turn.found c.loop-turn.tokens) _ c.loop-turn._turn c.loop-turn-test.true c.loop-turn.invariant in
+    let e = one_more (λ n. separated_from (member_rule (nested c.args.self.now.room)) n c.loop-turn.found c.loop-turn.tokens) _ c.loop-turn._turn c.loop-turn-test.true c.loop-turn.invariant in
     first_of (search rules, grind (arith, common_steps))
 
 pub returns : goal.returns
 unfolding separated_from
 returns g c =
-    let e = no_more (λ n. separated_from (member (nested c.args.self.now.room)) n c.loop-turn.found c.loop-turn.tokens) _ c.loop-turn._turn c.loop-turn-test.false c.loop-turn.invariant in
+    let e = no_more (λ n. separated_from (member_rule (nested c.args.self.now.room)) n c.loop-turn.found c.loop-turn.tokens) _ c.loop-turn._turn c.loop-turn-test.false c.loop-turn.invariant in
     first_of (search rules, grind (arith, common_steps))

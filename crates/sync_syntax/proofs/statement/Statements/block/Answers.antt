@@ -1,11 +1,11 @@
 use Rattle.std.proofs.Common.{rules, arith}
 use Rattle.std.proofs.lemmas.Grind.{common_steps}
-use Rattle.sync_syntax.specs.Statements.{block, block_from, statement}
+use Rattle.sync_syntax.specs.Statements.{block_rule, block_from, statement}
 use Rattle.sync_syntax.proofs.Turns.{one_more, no_more}
 use Rattle.sync_syntax.proofs.statement.Statements.block.Goals as goal
 
 pub loop-turn-init : goal.loop-turn-init
-unfolding block
+unfolding block_rule
 loop-turn-init g c = first_of (search rules, grind (arith, common_steps))
 
 pub returns-then-eat : goal.returns-then-eat

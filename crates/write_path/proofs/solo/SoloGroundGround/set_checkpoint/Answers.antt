@@ -1,7 +1,7 @@
 use Rattle.std.proofs.Common.{◌≡◌, ◌∷◌, ◌∙◌, ap, sym, subst, List}
 use Rattle.sg_history.specs.declared.entries.Entry.{Entry}
 use Rattle.sg_history.specs.Board.{BoardState, After}
-use Rattle.checkpoint_store.specs.Checkpoints.{pair_text}
+use Rattle.checkpoint_store.specs.Checkpoints.{checkpoint_text}
 use Rattle.doc_board.specs.Boards.{board_of}
 use Rattle.doc_board.specs.State.{State}
 use Rattle.write_path.specs.Own.{EndsWith}
@@ -15,7 +15,7 @@ invariant_of-self c =
     let t : State = c.set_checkpoint-answer.new.self.board in
     let is = c.set_checkpoint-answer.ensures in
     let on : After (board_of s) (board_of t) =
-    c.after.ensures.set s t (pair_text c.args.user.now c.args.client.now) c.args.rev c.args.body c.set_checkpoint-answer.result is.log is.pending is.rooms is.sets in
+    c.after.ensures.set s t (checkpoint_text c.args.user.now c.args.client.now) c.args.rev c.args.body c.set_checkpoint-answer.result is.log is.pending is.rooms is.sets in
     let read : c.add-2.new.self ≡ board_of t ∷ board_of s ∷ c.self.inside.read =
     c.add-2.ensures ∙ ap (λ (before : List BoardState). board_of t ∷ before) c.add.ensures in
     rw read
@@ -32,7 +32,7 @@ returns-clause-reads c =
     let t : State = c.set_checkpoint-answer.new.self.board in
     let is = c.set_checkpoint-answer.ensures in
     let on : After (board_of s) (board_of t) =
-    c.after.ensures.set s t (pair_text c.args.user.now c.args.client.now) c.args.rev c.args.body c.set_checkpoint-answer.result is.log is.pending is.rooms is.sets in
+    c.after.ensures.set s t (checkpoint_text c.args.user.now c.args.client.now) c.args.rev c.args.body c.set_checkpoint-answer.result is.log is.pending is.rooms is.sets in
     let read : c.add-2.new.self ≡ board_of t ∷ board_of s ∷ c.self.inside.read =
     c.add-2.ensures ∙ ap (λ (before : List BoardState). board_of t ∷ before) c.add.ensures in
     rw (← c.self.view_is) (two_reads c.boards.ensures.again _ _ (board_of s) (board_of t) read c.self.invariant.0 on)
@@ -44,4 +44,4 @@ returns-clause-sets c =
     let read : c.add-2.new.self ≡ board_of t ∷ board_of s ∷ c.self.inside.read =
     c.add-2.ensures ∙ ap (λ (before : List BoardState). board_of t ∷ before) c.add.ensures in
     rw (← c.self.view_is)
-    (set_here _ _ s t (pair_text c.args.user.now c.args.client.now) c.args.rev c.args.body c.set_checkpoint-answer.result read c.set_checkpoint-answer.ensures)
+    (set_here _ _ s t (checkpoint_text c.args.user.now c.args.client.now) c.args.rev c.args.body c.set_checkpoint-answer.result read c.set_checkpoint-answer.ensures)
