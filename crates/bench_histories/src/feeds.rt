@@ -301,8 +301,29 @@ fn look_on<R: Clock>(
     Ok(all)
 }
 
-/// So many users' looks at the last so many places of a log, behind one of the first user before them, since the user was put: the lists of the
-/// user's channels are kept.
+/// The users' looks at each place of a log behind one, behind a look of the first user there, since the user was put: the lists of the user's
+/// channels are kept.
+fn looks_behind_one<R: Clock>(
+    rt: &R,
+    alloc: Global,
+    feeds: &mut Feeds,
+    grants: &GrantHistory,
+    log: &mut LogReads<'_>,
+    users: &[Name],
+    from: u64,
+) -> Result<Looked, Stop>
+    requires within { from ≤ length log.old.entries }
+    requires stands { FeedsStandFor feeds.old log.old.entries }
+    requires grants { StandsFor grants.now log.old.entries }
+    requires applied { grants.now.applied ≡ length log.old.entries }
+{
+    let since = plain(FIRST_PUT);
+    let first = Name::parse(alloc, "u0")?;
+    look_at(rt, feeds, grants, log, &first, &since, from)?;
+    Ok(look_on(rt, feeds, grants, log, users, from)?)
+}
+
+/// So many users' looks at the last so many places of a log, behind one of the first user before them.
 fn last_looks<R: Clock>(
     rt: &R,
     alloc: Global,
@@ -314,18 +335,39 @@ fn last_looks<R: Clock>(
     requires grants { StandsFor grants.now log.now.entries.list }
     requires applied { grants.now.applied ≡ length log.now.entries.list }
 {
-    let mut reads = LogReads::new(log);
-    let mut feeds = Feeds::new(alloc, KEPT)?;
     let users = users_of(alloc, users)?;
     let from = grants.applied().saturating_sub(places);
-    let since = plain(FIRST_PUT);
-    let first = Name::parse(alloc, "u0")?;
-    look_at(rt, &mut feeds, grants, &mut reads, &first, &since, from)?;
+    let mut feeds = Feeds::new(alloc, KEPT)?;
+    let mut reads = LogReads::new(log);
     let all = users.as_slice();
-    Ok(look_on(rt, &mut feeds, grants, &mut reads, all, from)?)
+    let found = looks_behind_one(rt, alloc, &mut feeds, grants, &mut reads, all, from);
+    drop(feeds);
+    found
 }
 
 /// The looks of `ann` and of `bob` at the end of a log since its last two entries, behind a look of `carol` at its end.
+fn looks_of_both<R: Clock>(
+    rt: &R,
+    alloc: Global,
+    feeds: &mut Feeds,
+    grants: &GrantHistory,
+    log: &mut LogReads<'_>,
+) -> Result<(Looked, Looked), Stop>
+    requires stands { FeedsStandFor feeds.old log.old.entries }
+    requires grants { StandsFor grants.now log.old.entries }
+    requires applied { grants.now.applied ≡ length log.old.entries }
+{
+    let (ann, bob) = (Name::parse(alloc, "ann")?, Name::parse(alloc, "bob")?);
+    let carol = Name::parse(alloc, "carol")?;
+    let end = grants.applied();
+    let (last, since) = (plain(end), plain(end.saturating_sub(2)));
+    look_at(rt, feeds, grants, log, &carol, &last, end)?;
+    let first = look_at(rt, feeds, grants, log, &ann, &since, end)?;
+    let second = look_at(rt, feeds, grants, log, &bob, &since, end)?;
+    Ok((first, second))
+}
+
+/// The same with lists that nobody asked before.
 fn both_looks<R: Clock>(
     rt: &R,
     alloc: Global,
@@ -335,20 +377,15 @@ fn both_looks<R: Clock>(
     requires grants { StandsFor grants.now log.now.entries.list }
     requires applied { grants.now.applied ≡ length log.now.entries.list }
 {
-    let (ann, bob) = (Name::parse(alloc, "ann")?, Name::parse(alloc, "bob")?);
-    let carol = Name::parse(alloc, "carol")?;
-    let mut reads = LogReads::new(log);
     let mut feeds = Feeds::new(alloc, KEPT)?;
-    let end = grants.applied();
-    let (last, since) = (plain(end), plain(end.saturating_sub(2)));
-    look_at(rt, &mut feeds, grants, &mut reads, &carol, &last, end)?;
-    let first = look_at(rt, &mut feeds, grants, &mut reads, &ann, &since, end)?;
-    let second = look_at(rt, &mut feeds, grants, &mut reads, &bob, &since, end)?;
-    Ok((first, second))
+    let mut reads = LogReads::new(log);
+    let found = looks_of_both(rt, alloc, &mut feeds, grants, &mut reads);
+    drop(feeds);
+    found
 }
 
 /// A history of grants that has applied a log.
-fn grants_of(alloc: Global, log: &Log) -> Result<GrantHistory, AllocError>
+pub fn grants_of(alloc: Global, log: &Log) -> Result<GrantHistory, AllocError>
     ensures stands { IfOk result (λ grants. StandsFor grants log.now.entries.list) }
     ensures applied { IfOk result (λ grants. grants.applied ≡ length log.now.entries.list) }
 {
@@ -367,12 +404,16 @@ pub fn advance<R: Clock>(
 ) -> Result<Looked, Stop> {
     let log = take_journal(alloc, journal)?;
     let history = grants_of(alloc, &log)?;
-    last_looks(rt, alloc, &log, &history, places, users)
+    let found = last_looks(rt, alloc, &log, &history, places, users);
+    drop(history);
+    found
 }
 
 /// What looks of `ann` and of `bob` at the end of a journal find since its last two entries.
 pub fn gain<R: Clock>(rt: &R, alloc: Global, journal: Bytes) -> Result<(Looked, Looked), Stop> {
     let log = take_journal(alloc, journal)?;
     let history = grants_of(alloc, &log)?;
-    both_looks(rt, alloc, &log, &history)
+    let found = both_looks(rt, alloc, &log, &history);
+    drop(history);
+    found
 }

@@ -124,7 +124,24 @@ pub fn is_stored<G: Ground>(
     Ok(is_revision_stored(alloc, ground, program, user, revision))
 }
 
-/// Proposes so many revisions, and counts those that are stored.
+/// Proposes so many revisions under a program, and counts those that are stored.
+fn stored_under(
+    alloc: Global,
+    ground: &mut SoloGround,
+    program: &Resolved,
+    user: &Name,
+    proposals: u64,
+) -> Result<u64, Stop> {
+    let mut count = 0u64;
+    for number in 0..proposals {
+        if is_stored(alloc, ground, program, user, number)? {
+            count = count.saturating_add(1);
+        }
+    }
+    Ok(count)
+}
+
+/// The same under the program that a gateway has where its configuration has none.
 fn stored(
     alloc: Global,
     ground: &mut SoloGround,
@@ -132,13 +149,9 @@ fn stored(
     proposals: u64,
 ) -> Result<u64, Stop> {
     let program = program_of(alloc, FUNCTION)?;
-    let mut count = 0u64;
-    for number in 0..proposals {
-        if is_stored(alloc, ground, &program, user, number)? {
-            count = count.saturating_add(1);
-        }
-    }
-    Ok(count)
+    let count = stored_under(alloc, ground, &program, user, proposals);
+    drop(program);
+    count
 }
 
 /// What a look for the bodies of these rows answers.
@@ -255,5 +268,7 @@ fn done(alloc: Global, ground: &mut SoloGround, name: &str, number: u64) -> Resu
 /// What a job counts at the ground of a journal.
 pub fn job(alloc: Global, journal: Bytes, name: &str, number: u64) -> Result<u64, Stop> {
     let mut ground = ground_of(alloc, journal)?;
-    done(alloc, &mut ground, name, number)
+    let count = done(alloc, &mut ground, name, number);
+    drop(ground);
+    count
 }

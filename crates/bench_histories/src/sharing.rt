@@ -13,7 +13,7 @@ use crate::stop::Stop;
 use doc_board::Board;
 use seq_gate::laws::turns;
 use seq_gate::{Gate, Pass, open};
-use sg_history::{Key, Name, Row};
+use sg_history::{Key, Name, Row, Rows};
 use sg_outside::Bytes;
 use std::alloc::Global;
 use std::io;
@@ -260,9 +260,45 @@ fn shelf_of(alloc: Global, journal: Bytes) -> Result<Shelf, Stop>
 {
     let board = Board::open(alloc, log_of(alloc, journal)?)?;
     if board.front() > MOST_ENTRIES {
+        drop(board);
         return Err(Stop::Board);
     }
     Ok(Shelf::new(board)?)
+}
+
+/// How many revisions are stored at a shelf, or how long a turn is waited for.
+fn counted_at<R: Threads + Wait + Clock + Sync>(
+    rt: &R,
+    alloc: Global,
+    shelf: Shelf,
+    work: &Work<'_>,
+    name: &str,
+    threads: u64,
+) -> Result<u64, Stop>
+    requires pending { shelf.board.pending ≡ [] }
+    requires rooms { shelf.board.rooms ≡ [] }
+    requires short { length shelf.board.log ≤ 10000000 }
+{
+    let (gate, pass) = open(alloc, shelf)?;
+    let counted = if name == "wait" {
+        wait_beside(rt, alloc, &gate, pass, work)
+    } else {
+        by_threads(rt, alloc, &gate, pass, work, threads)
+    };
+    drop(gate);
+    Ok(counted)
+}
+
+/// The same at the board of a journal.
+fn counted_by<R: Threads + Wait + Clock + Sync>(
+    rt: &R,
+    alloc: Global,
+    journal: Bytes,
+    work: &Work<'_>,
+    name: &str,
+    threads: u64,
+) -> Result<u64, Stop> {
+    counted_at(rt, alloc, shelf_of(alloc, journal)?, work, name, threads)
 }
 
 /// How many of so many revisions for each of some threads are stored at the board of a journal; or how many microseconds a turn is
@@ -282,16 +318,14 @@ pub fn counted<R: Threads + Wait + Clock + Sync>(
         FUNCTION
     };
     let program = program_of(alloc, function)?;
-    let (gate, pass) = open(alloc, shelf_of(alloc, journal)?)?;
     let work = Work {
         program: &program,
         user: &user,
         count,
     };
-    if name == "wait" {
-        return Ok(wait_beside(rt, alloc, &gate, pass, &work));
-    }
-    Ok(by_threads(rt, alloc, &gate, pass, &work, threads))
+    let counted = counted_by(rt, alloc, journal, &work, name, threads);
+    drop(program);
+    counted
 }
 
 /// How many microseconds a look for the bodies of these rows takes.
@@ -338,7 +372,10 @@ pub fn longest_look<R: Wait + Clock>(
     let user = Name::parse(alloc, "ann")?;
     let (gate, pass) = open(alloc, shelf_of(alloc, journal)?)?;
     let mut ground = SharedGround::new(rt, &gate, pass);
-    longest_of(rt, alloc, &mut ground, &user, count)
+    let longest = longest_of(rt, alloc, &mut ground, &user, count);
+    drop(ground);
+    drop(gate);
+    longest
 }
 
 /// A ground at which a user looks so often for the feed behind the last entry but one.
@@ -436,6 +473,17 @@ fn longest_by_threads<R: Threads + Wait + Clock + Sync>(
     first.max(second).max(third).max(fourth)
 }
 
+/// Whether a look had rows, at a board that is short enough to be shared.
+fn is_read(rows: Result<Rows, Stop>, front: u64) -> Result<(), Stop>
+    ensures { IfOk result (λ _. front ≤ 10000000) }
+{
+    drop(rows?);
+    if front > MOST_ENTRIES {
+        return Err(Stop::Board);
+    }
+    Ok(())
+}
+
 /// The shelf of a journal, which has read its log for a user.
 fn read_shelf_of(alloc: Global, journal: Bytes, user: &Name) -> Result<Shelf, Stop>
     ensures pending { IfOk result (λ shelf. shelf.board.pending ≡ []) }
@@ -444,13 +492,16 @@ fn read_shelf_of(alloc: Global, journal: Bytes, user: &Name) -> Result<Shelf, St
 {
     let mut ground = ground_of(alloc, journal)?;
     let since = plain(ground.front());
-    let rows = rows_of(alloc, &mut ground, user, &since)?;
-    drop(rows);
+    let rows = rows_of(alloc, &mut ground, user, &since);
     let shelf = ground.into_inner();
-    if shelf.board().front() > MOST_ENTRIES {
-        return Err(Stop::Board);
+    let read = is_read(rows, shelf.board().front());
+    match read {
+        Ok(()) => Ok(shelf),
+        Err(stop) => {
+            drop(shelf);
+            Err(stop)
+        }
     }
-    Ok(shelf)
 }
 
 /// The most microseconds that one of so many looks of each of one thread or of four takes at a gate, and the nanoseconds that all take.
@@ -465,5 +516,7 @@ pub fn looked<R: Threads + Wait + Clock + Sync>(
     let (gate, pass) = open(alloc, read_shelf_of(alloc, journal, &user)?)?;
     let then = Instant::now(rt);
     let longest = longest_by_threads(rt, alloc, &gate, pass, &user, threads, count);
-    Ok((longest, nanoseconds_since(rt, then)))
+    let took = nanoseconds_since(rt, then);
+    drop(gate);
+    Ok((longest, took))
 }

@@ -71,7 +71,27 @@ fn is_done(
     is_of_job(job, &outcome)
 }
 
-/// Proposes so many children, each of the one before where the job is to extend, and else all of the leaf.
+/// Proposes so many children under a program, each of the one before where the job is to extend, and else all of the leaf.
+fn proposed_under(
+    alloc: Global,
+    ground: &mut SoloGround,
+    program: &Resolved,
+    user: &Name,
+    job: &str,
+    leaf: &RevId,
+    count: u32,
+) -> Result<u64, Stop> {
+    let mut found = 0u64;
+    for number in 0..count {
+        let revision = child_of(alloc, leaf, if job == "extend" { number } else { 0 })?;
+        if is_done(alloc, ground, program, user, job, revision) {
+            found = found.saturating_add(1);
+        }
+    }
+    Ok(found)
+}
+
+/// The same under the program of the job.
 fn proposed(
     alloc: Global,
     ground: &mut SoloGround,
@@ -81,14 +101,9 @@ fn proposed(
     count: u32,
 ) -> Result<u64, Stop> {
     let program = program_of(alloc, if job == "deny" { DENIES } else { ACCEPTS })?;
-    let mut found = 0u64;
-    for number in 0..count {
-        let revision = child_of(alloc, leaf, if job == "extend" { number } else { 0 })?;
-        if is_done(alloc, ground, &program, user, job, revision) {
-            found = found.saturating_add(1);
-        }
-    }
-    Ok(found)
+    let found = proposed_under(alloc, ground, &program, user, job, leaf, count);
+    drop(program);
+    found
 }
 
 /// An offer of a revision of this number of the generation after a leaf's, which the document lacks.
@@ -151,5 +166,7 @@ fn done(
 pub fn job(alloc: Global, journal: Bytes, name: &str, leaf: &str, count: u32) -> Result<u64, Stop> {
     let leaf = RevId::parse(alloc, leaf)?;
     let mut ground = ground_of(alloc, journal)?;
-    done(alloc, &mut ground, name, &leaf, count)
+    let found = done(alloc, &mut ground, name, &leaf, count);
+    drop(ground);
+    found
 }

@@ -71,7 +71,7 @@ impl Pending {
             ≡ put_waiting (record { number = sequence; entry = entry }) self.old.waiting }
         ensures spare { self.old.spare ≤ self.new.spare + 1 }
     {
-        let _ = self.held.insert(sequence, entry);
+        drop(self.held.insert(sequence, entry));
     }
 
     /// The entry that waits under a number, if one does. Allocates nothing.

@@ -8,17 +8,17 @@ use Rattle.pending_front.specs.Pending.{Reserved}
 use Rattle.pending_front.proofs.Numbered.{ok_gives, put_moved, put_in, put_in_rises}
 use Rattle.pending_front.proofs.pending.Pending.put.Goals as goal
 
-is_free : (c : goal.Joined-insert) → waiting_at (rising c.self.inside.held.entries) c.args.sequence ≡ None
+is_free : (c : goal.After-drop) → waiting_at (rising c.self.inside.held.entries) c.args.sequence ≡ None
 is_free c = subst (λ (r : Reserved). waiting_at r.waiting c.args.sequence ≡ None) (sym c.self.view_is) c.requires.free
 
-is_put : (c : goal.Joined-insert) → IsOk c.insert.result
+is_put : (c : goal.After-drop) → IsOk c.insert.result
 is_put c = c.insert.ensures.succeeds (subst (λ (r : Reserved). 0 < r.spare) (sym c.self.view_is) c.requires.place)
 
-is_moved : (c : goal.Joined-insert) → IsPermutation ((c.args.sequence, c.args.entry) ∷ c.self.inside.held.entries) c.insert.new.self.entries
+is_moved : (c : goal.After-drop) → IsPermutation ((c.args.sequence, c.args.entry) ∷ c.self.inside.held.entries) c.insert.new.self.entries
 is_moved c =
     put_moved c.insert.result c.args.sequence c.args.entry c.self.inside.held.entries c.insert.new.self.entries (is_put c) c.insert.ensures.old c.insert.ensures.entries c.self.invariant (is_free c)
 
-is_found : (c : goal.Joined-insert) → (q : ℕ) → lookup (nat_eq q) c.insert.new.self.entries ≡ cond (nat_eq c.args.sequence q) (Some c.args.entry) (lookup (nat_eq q) c.self.inside.held.entries)
+is_found : (c : goal.After-drop) → (q : ℕ) → lookup (nat_eq q) c.insert.new.self.entries ≡ cond (nat_eq c.args.sequence q) (Some c.args.entry) (lookup (nat_eq q) c.self.inside.held.entries)
 is_found c = (ok_gives c.insert.result (is_put c) c.insert.ensures.updates).0
 
 pub invariant_of-self : goal.invariant_of-self
