@@ -3,8 +3,8 @@
 use crate::programs::{OPEN, setup};
 use doc_board::Board;
 use session_mux::FrameWhy;
-use session_run::{End, Ended, serve_session};
-use sg_outside::{Bytes, Got, ScriptedWire};
+use session_run::{End, Setup, serve_session};
+use sg_outside::{Bytes, Got, ScriptedWire, Wire};
 use std::alloc::{AllocError, Global};
 use std::test::Fail;
 use write_path::{Shelf, SoloGround};
@@ -42,18 +42,41 @@ fn wire(alloc: Global, words: &str, fails: bool) -> Result<ScriptedWire, AllocEr
     Ok(ScriptedWire::new(alloc, script, sendings))
 }
 
-fn serve(alloc: Global, wire: &mut ScriptedWire) -> Result<Ended, Fail> {
-    let setup = setup(alloc, OPEN)?;
-    let ground = ground(alloc)?;
-    let (_ground, ended) = serve_session(alloc, ground, setup, wire);
-    Ok(ended)
+/// How a session at a ground ends, and after how many looks.
+fn served<W: Wire>(
+    alloc: Global,
+    ground: SoloGround,
+    setup: Setup,
+    wire: &mut W,
+) -> (End, usize) {
+    let (ground, ended) = serve_session(alloc, ground, setup, wire);
+    drop(ground);
+    let end = ended.end;
+    let looks = ended.looks.as_slice().len();
+    drop(ended);
+    (end, looks)
 }
 
-/// How a session ends, and how many frames are sent.
+/// The same of a session of ann's device.
+pub fn end_at<W: Wire>(
+    alloc: Global,
+    ground: SoloGround,
+    wire: &mut W,
+) -> Result<(End, usize), Fail> {
+    match setup(alloc, OPEN) {
+        Ok(setup) => Ok(served(alloc, ground, setup, wire)),
+        Err(fail) => {
+            drop(ground);
+            Err(fail)
+        }
+    }
+}
+
+/// How a session with an empty history ends, and how many frames are sent.
 fn end(alloc: Global, words: &str, fails: bool) -> Result<(End, usize), Fail> {
     let mut wire = wire(alloc, words, fails)?;
-    let ended = serve(alloc, &mut wire)?;
-    Ok((ended.end, wire.sent.len()))
+    let (end, _) = end_at(alloc, ground(alloc)?, &mut wire)?;
+    Ok((end, wire.sent.len()))
 }
 
 fn at(index: u64, why: FrameWhy) -> End {

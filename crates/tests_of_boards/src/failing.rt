@@ -1,8 +1,8 @@
 //! A session over a wire of which each call fails in turn.
 
-use crate::programs::{OPEN, setup};
+use crate::ends::end_at;
 use crate::sharing::shelf_of;
-use session_run::{End, serve_session};
+use session_run::End;
 use sg_history::from_hex;
 use sg_outside::{Bytes, Got, ScriptedWire};
 use std::alloc::{AllocError, Global};
@@ -74,10 +74,9 @@ fn wire(
 
 /// How the session over a wire ends.
 fn end(alloc: Global, wire: &mut ScriptedWire) -> Result<End, Fail> {
-    let setup = setup(alloc, OPEN)?;
-    let shelf = shelf_of(alloc, ANN)?;
-    let (_ground, ended) = serve_session(alloc, SoloGround::new(shelf), setup, wire);
-    Ok(ended.end)
+    let ground = SoloGround::new(shelf_of(alloc, ANN)?);
+    let (end, _) = end_at(alloc, ground, wire)?;
+    Ok(end)
 }
 
 /// Whether frames are the first of others.

@@ -1,5 +1,7 @@
 //! Tests that begin with a new board. One function holds it, since each one that does has its drop proved.
 
+ghost use Rattle.std.specs.Prelude.{◌≡◌, []};
+
 use crate::checkpoints::fills_checkpoints;
 use crate::tries::passes_a_number;
 use crate::waiting::{asks_too_much, ends_with_the_lowest, holds_a_number};
@@ -17,15 +19,25 @@ enum Case {
     Checkpoints,
 }
 
+fn goes_right_at(alloc: Global, board: &mut Board, case: Case) -> Result<bool, Fail>
+    requires log { board.old.log ≡ [] }
+    requires pending { board.old.pending ≡ [] }
+    requires rooms { board.old.rooms ≡ [] }
+{
+    match case {
+        Case::LowestLast => Ok(ends_with_the_lowest(alloc, board)),
+        Case::Held => Ok(holds_a_number(alloc, board)),
+        Case::TooMuch => Ok(asks_too_much(board)),
+        Case::Passed => passes_a_number(alloc, board),
+        Case::Checkpoints => fills_checkpoints(alloc, board),
+    }
+}
+
 fn goes_right(alloc: Global, case: Case) -> Result<bool, Fail> {
     let mut board = Board::new(alloc)?;
-    Ok(match case {
-        Case::LowestLast => ends_with_the_lowest(alloc, &mut board),
-        Case::Held => holds_a_number(alloc, &mut board),
-        Case::TooMuch => asks_too_much(&mut board),
-        Case::Passed => passes_a_number(alloc, &mut board)?,
-        Case::Checkpoints => fills_checkpoints(alloc, &mut board)?,
-    })
+    let right = goes_right_at(alloc, &mut board, case);
+    drop(board);
+    right
 }
 
 /// Entries are stored at 1, 4 and 3, and 2 is given up: the front follows at last.

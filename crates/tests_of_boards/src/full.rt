@@ -1,9 +1,8 @@
 //! A session that takes all its looks.
 
-use crate::ends::ground;
-use crate::programs::{OPEN, setup};
+use crate::ends::{end_at, ground};
 use blip_frame::{Crc, Frame, Kind, write_frame};
-use session_run::{End, serve_session};
+use session_run::End;
 use sg_outside::{Bytes, Gave, Got, Wire};
 use std::alloc::{AllocError, Global};
 use std::test::Fail;
@@ -63,10 +62,8 @@ fn served(alloc: Global) -> Result<(End, usize, u64), Fail> {
         asked: 0,
         sent: 0,
     };
-    let setup = setup(alloc, OPEN)?;
-    let ground = ground(alloc)?;
-    let (_ground, ended) = serve_session(alloc, ground, setup, &mut wire);
-    Ok((ended.end, ended.looks.as_slice().len(), wire.asked))
+    let (end, looks) = end_at(alloc, ground(alloc)?, &mut wire)?;
+    Ok((end, looks, wire.asked))
 }
 
 #[test]

@@ -57,6 +57,7 @@ pub fn shelf_of(alloc: Global, journal: &[u8]) -> Result<Shelf, Fail>
         return Err(Fail::from("no board"));
     };
     if board.front() > 1000 {
+        drop(board);
         return Err(Fail::from("a long journal"));
     }
     Ok(Shelf::new(board)?)
@@ -202,7 +203,9 @@ fn revoked<R: Wait + Sync>(rt: &R, alloc: Global) -> Result<(End, bool, bool), F
             return Err(fail);
         }
     };
-    Ok(served(rt, alloc, &gate, pass, device))
+    let served = served(rt, alloc, &gate, pass, device);
+    drop(gate);
+    Ok(served)
 }
 
 /// A row is sent at front 5; the user loses the channel with the role by entry 6, and then the device wants the row: there is no such revision any more
@@ -373,10 +376,21 @@ fn in_threads<R: Threads + Wait + Sync>(
     (closed(gate, one, two), stored)
 }
 
+/// Does both works under a program, from an empty history on.
+fn both_under<R: Threads + Wait + Sync>(
+    rt: &R,
+    alloc: Global,
+    program: &Resolved,
+) -> Result<(u64, bool), Fail> {
+    let (gate, pass) = opened(alloc, b"sgjournal 1\n")?;
+    Ok(in_threads(rt, alloc, gate, pass, program))
+}
+
 fn both_work<R: Threads + Wait + Sync>(rt: &R, alloc: Global) -> Result<(u64, bool), Fail> {
     let program = open_program(alloc)?;
-    let (gate, pass) = opened(alloc, b"sgjournal 1\n")?;
-    Ok(in_threads(rt, alloc, gate, pass, &program))
+    let worked = both_under(rt, alloc, &program);
+    drop(program);
+    worked
 }
 
 #[test]

@@ -229,6 +229,30 @@ fn both_on(
     Ok((outcomes, board.front()))
 }
 
+/// Whether a revision was stored at a sequence, at once.
+fn is_stored(outcome: &Outcome, number: u64) -> bool {
+    match outcome {
+        Outcome::Stored { sequence, at } => *sequence == number && *at == 0,
+        _ => false,
+    }
+}
+
+/// Whether a write was handed back for the document's write at 4, and stored at 5.
+fn is_passed(passed: &Passed) -> bool {
+    match &passed.outcome {
+        Some(outcome) => passed.last == 4 && passed.front == 0 && is_stored(outcome, 5),
+        None => false,
+    }
+}
+
+/// Whether the first revision was stored at 4, and the other one at 5.
+fn are_stored(outcomes: &Option<(Outcome, Option<Passed>)>) -> bool {
+    match outcomes {
+        Some((first, Some(passed))) => is_stored(first, 4) && is_passed(passed),
+        _ => false,
+    }
+}
+
 /// At a new board a revision is stored at 4, and of another one of the same document, with 3, that is known; then it is stored at 5. The
 /// front stays, since the first number is held.
 pub fn passes_a_number(alloc: Global, board: &mut Board) -> Result<bool, Fail>
@@ -236,19 +260,10 @@ pub fn passes_a_number(alloc: Global, board: &mut Board) -> Result<bool, Fail>
     requires pending { board.old.pending ≡ [] }
 {
     let program = open(alloc)?;
-    let outcomes = both_on(alloc, board, &program)?;
-    Ok(matches!(
-        outcomes,
-        (
-            Some((
-                Outcome::Stored { sequence: 4, at: 0 },
-                Some(Passed {
-                    last: 4,
-                    front: 0,
-                    outcome: Some(Outcome::Stored { sequence: 5, at: 0 })
-                })
-            )),
-            0
-        )
-    ))
+    let outcomes = both_on(alloc, board, &program);
+    drop(program);
+    let (outcomes, front) = outcomes?;
+    let stored = are_stored(&outcomes);
+    drop(outcomes);
+    Ok(stored && front == 0)
 }

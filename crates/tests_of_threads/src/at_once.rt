@@ -105,7 +105,9 @@ fn are_closed<W: Wire>(sessions: &[PlayedSession<W>]) -> bool {
 
 fn both_closed<R: Threads + Wait + Sync>(rt: &R, alloc: Global) -> Result<bool, Fail> {
     let played = played(rt, alloc, OPEN, b"sgadmin 1\n", wires(rt, alloc)?)?;
-    Ok(are_closed(played.sessions.as_slice()))
+    let closed = are_closed(played.sessions.as_slice());
+    drop(played);
+    Ok(closed)
 }
 
 /// Both end as their wires do, since each is answered while the other one waits. Where one were served after the other, the first would

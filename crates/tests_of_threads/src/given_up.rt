@@ -34,6 +34,7 @@ fn shelf_of(alloc: Global, journal: &[u8]) -> Result<Shelf, Fail>
         return Err(Fail::from("no board"));
     };
     if board.front() > 1000 {
+        drop(board);
         return Err(Fail::from("a long journal"));
     }
     Ok(Shelf::new(board)?)
@@ -65,7 +66,8 @@ fn put_back(rt: &impl Abort, turn: &mut Turn<Shelf>, board: Board)
     ensures found { turn.new.found ≡ turn.old.found }
     ensures board { turn.new.board.board ≡ board }
 {
-    *turn.board() = Shelf::new(board).expect(rt, "a shelf");
+    let shelf = Shelf::new(board).expect(rt, "a shelf");
+    drop(replace(turn.board(), shelf));
 }
 
 /// The shelf without entries, which stands in a turn for a moment.
@@ -92,6 +94,8 @@ fn room_in_turn<R: Wait + Abort>(
     let mut turn = pass.enter(rt, gate);
     let mut board = taken(&mut turn, other);
     let Ok(room) = board.room(None, 0) else {
+        drop(board);
+        drop(turn);
         return Err(Fail::from("no room"));
     };
     put_back(rt, &mut turn, board);
@@ -190,7 +194,36 @@ fn is_stored_at_3<G: Ground>(alloc: Global, ground: &mut G, program: &Resolved) 
 /// Whether a revision is stored at 3, and what ann is shown before the number 2 is given up and afterwards.
 type Told = (bool, Option<Seen>, Option<Seen>);
 
-/// A pass makes a room and draws a number; another stores a revision of d1 at the next one; then the first gives its number up.
+/// A pass with a room draws a number; another stores a revision of d1 at the next one; then the first gives its number up, in a turn for whose
+/// moment there is another shelf.
+fn told_between<R: Wait + Abort + Sync>(
+    rt: &R,
+    alloc: Global,
+    gate: &Gate<Shelf>,
+    one: Pass<Shelf>,
+    room: Room,
+    two: Pass<Shelf>,
+    other: Shelf,
+    program: &Resolved,
+) -> Told
+    requires here { (one.gate ≡ gate.now) × (two.gate ≡ gate.now) }
+    requires held { one.knows.held ≡ [] }
+    requires rooms { one.knows.rooms ≡ room.made_for ∷ [] }
+    requires rests { Rests two.knows }
+    requires draws { (1 ≤ one.knows.left) × (2 ≤ two.knows.left) }
+{
+    let mut one = one;
+    let mut ground = SharedGround::new(rt, gate, two);
+    let number = one.draw(gate);
+    let stored = is_stored_at_3(alloc, &mut ground, program);
+    let before = shown_to_ann(alloc, &mut ground);
+    give_up(rt, gate, one, other, room, number);
+    let after = shown_to_ann(alloc, &mut ground);
+    drop(ground);
+    (stored, before, after)
+}
+
+/// The same by a pass that makes the room and its other half.
 fn held_and_given_up<R: Wait + Abort + Sync>(
     rt: &R,
     alloc: Global,
@@ -204,22 +237,36 @@ fn held_and_given_up<R: Wait + Abort + Sync>(
 {
     let mut one = pass;
     let two = one.split(gate);
-    let mut ground = SharedGround::new(rt, gate, two);
     let other = empty_shelf(alloc)?;
-    let (one, room) = room_in_turn(rt, alloc, gate, one)?;
-    let mut one = one;
-    let number = one.draw(gate);
-    let stored = is_stored_at_3(alloc, &mut ground, program);
-    let before = shown_to_ann(alloc, &mut ground);
-    give_up(rt, gate, one, other, room, number);
-    let after = shown_to_ann(alloc, &mut ground);
-    Ok((stored, before, after))
+    match room_in_turn(rt, alloc, gate, one) {
+        Ok((one, room)) => Ok(told_between(
+            rt, alloc, gate, one, room, two, other, program,
+        )),
+        Err(fail) => {
+            drop(two);
+            drop(other);
+            Err(fail)
+        }
+    }
+}
+
+/// The same at a gate of its own.
+fn told_under<R: Wait + Abort + Sync>(
+    rt: &R,
+    alloc: Global,
+    program: &Resolved,
+) -> Result<Told, Fail> {
+    let (gate, pass) = opened(alloc, ONE)?;
+    let told = held_and_given_up(rt, alloc, &gate, pass, program);
+    drop(gate);
+    told
 }
 
 fn told<R: Wait + Abort + Sync>(rt: &R, alloc: Global) -> Result<Told, Fail> {
     let program = program_of(alloc, OPEN)?;
-    let (gate, pass) = opened(alloc, ONE)?;
-    held_and_given_up(rt, alloc, &gate, pass, &program)
+    let told = told_under(rt, alloc, &program);
+    drop(program);
+    told
 }
 
 /// While the number 2 is held, the write at 3 is not shown; once 2 is given up, it is.

@@ -87,7 +87,9 @@ fn pushed<R: Threads + Wait + Sync>(
     config: &[u8],
 ) -> Result<(bool, u64, u64, u64), Fail> {
     let played = played(rt, alloc, config, SCRIPT, wires(alloc)?)?;
-    Ok(all_of(&played))
+    let all = all_of(&played);
+    drop(played);
+    Ok(all)
 }
 
 /// Behind ann's entry stand two of the script, and all six revisions.

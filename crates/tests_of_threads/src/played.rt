@@ -64,6 +64,37 @@ fn sessions_of<W: Wire>(alloc: Global, wires: Vec<W>) -> Result<Sessions<W>, Fai
     Ok(Sessions::from_vec(sessions))
 }
 
+/// What the script and sessions of ann at these wires leave under a configuration.
+fn played_under<R: Threads + Wait + Sync, W: Wire + Send>(
+    rt: &R,
+    alloc: Global,
+    config: &Config,
+    script: &[u8],
+    wires: Vec<W>,
+) -> Result<Played<W>, Fail> {
+    let lines = script_of(alloc, script)?;
+    let sessions = match sessions_of(alloc, wires) {
+        Ok(sessions) => sessions,
+        Err(fail) => {
+            drop(lines);
+            return Err(fail);
+        }
+    };
+    if lines.as_slice().len() > 1000 || sessions.as_slice().len() > 1000 {
+        drop(lines);
+        drop(sessions);
+        return Err(Fail::from("too many"));
+    }
+    match empty_shelf(alloc) {
+        Ok(shelf) => Ok(run_sessions(rt, alloc, shelf, config, lines, sessions)?),
+        Err(fail) => {
+            drop(lines);
+            drop(sessions);
+            Err(fail)
+        }
+    }
+}
+
 /// What the script and sessions of ann at these wires leave.
 pub fn played<R: Threads + Wait + Sync, W: Wire + Send>(
     rt: &R,
@@ -73,10 +104,7 @@ pub fn played<R: Threads + Wait + Sync, W: Wire + Send>(
     wires: Vec<W>,
 ) -> Result<Played<W>, Fail> {
     let config = config_of(alloc, config)?;
-    let lines = script_of(alloc, script)?;
-    let sessions = sessions_of(alloc, wires)?;
-    if lines.as_slice().len() > 1000 || sessions.as_slice().len() > 1000 {
-        return Err(Fail::from("too many"));
-    }
-    Ok(run_sessions(rt, alloc, empty_shelf(alloc)?, &config, lines, sessions)?)
+    let played = played_under(rt, alloc, &config, script, wires);
+    drop(config);
+    played
 }

@@ -4,6 +4,3 @@ use Rattle.tests_of_threads.proofs.given_up.held_and_given_up.Goals as goal
 
 pub split-two-requires-send-B : goal.split-two-requires-send-B
 split-two-requires-send-B g c κs = search (shelf_send, sendable) depth 20
-
-pub draw-number-requires-send-B : goal.draw-number-requires-send-B
-draw-number-requires-send-B g c κs = search (shelf_send, sendable) depth 20
