@@ -27,11 +27,22 @@ fn request(alloc: Global) -> Result<Act, Fail> {
     })
 }
 
-/// A request, and what is wanted.
-fn acts(alloc: Global, want: Option<Want>) -> Result<Acts, Fail> {
+/// One request in a list.
+fn puts(alloc: Global) -> Result<Vec<Act>, Fail> {
     let mut puts = Vec::new(alloc);
     puts.push(request(alloc)?)?;
-    Ok(Acts { puts, want })
+    Ok(puts)
+}
+
+/// A request, and what is wanted.
+fn acts(alloc: Global, want: Option<Want>) -> Result<Acts, Fail> {
+    match puts(alloc) {
+        Ok(puts) => Ok(Acts { puts, want }),
+        Err(fail) => {
+            drop(want);
+            Err(fail)
+        }
+    }
 }
 
 /// How many acts are in the list, and whether the last is a want.

@@ -88,6 +88,8 @@ fn at_five(
         return None;
     };
     if last >= 5 {
+        drop(entry);
+        drop(tree);
         board.void(room, number);
         return None;
     }
@@ -195,9 +197,10 @@ fn both(
             Retried::Overtaken {
                 room,
                 number,
-                ready: _ready,
+                ready,
             },
         ) => {
+            drop(ready);
             board.void(room, number);
             None
         }

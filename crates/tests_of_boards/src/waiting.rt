@@ -46,9 +46,10 @@ fn dropped(board: &mut Board, user: Name, number: u64) -> Option<u64>
         Commit::Stale {
             room,
             number,
-            candidate: _candidate,
+            candidate,
             last: _last,
         } => {
+            drop(candidate);
             board.void(room, number);
             None
         }
