@@ -54,7 +54,7 @@ many_of_kind field k is texts many = subst (λ f. IsScriptFault (f ∷ texts) re
 
 -- a first field that is no kind
 pub no_kind : (field : List ℕ) (texts : List (List ℕ)) → script_parts field ≡ None → IsScriptFault (field ∷ texts) reason.Kind
-no_kind field texts none = subst (λ (o : Option (List Part)). IsKindFault IsScriptField o texts reason.Kind) (sym none) refl
+no_kind field texts none = subst (λ (o : Option (List ScriptField)). IsKindFault IsScriptField o texts reason.Kind) (sym none) refl
 
 no_parent : (text : List ℕ) (rev : RevId) (v : Option RevId) → text ≡ rev_text rev → is_rev rev ≡ true → rev.generation ≡ 4294967295 → text ≢ codes "-"
     → may_be_parent v ≡ true → text ≢ script_parent v

@@ -128,7 +128,7 @@ pub other_kind : (kind : List ℕ) (texts : List (List ℕ)) → kind ≢ codes 
 other_kind kind texts other = elim (cases_Bool (bytes_eq kind (codes "user"))) [
   | inl same ↦ absurd (other ((bytes_eq-Decides kind (codes "user")).0 same))
   | inr apart ↦
-      subst (λ (o : Option (List Part)). IsKindFault IsRecordField o texts reason.Kind) (sym (ap (λ (b : Bool). if b then Some owner_parts else None) apart)) refl
+      subst (λ (o : Option (List RecordField)). IsKindFault IsRecordField o texts reason.Kind) (sym (ap (λ (b : Bool). if b then Some owner_parts else None) apart)) refl
 ]
 
 -- what is wrong with the fields behind the kind is wrong with the line
