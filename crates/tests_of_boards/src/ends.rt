@@ -43,12 +43,7 @@ fn wire(alloc: Global, words: &str, fails: bool) -> Result<ScriptedWire, AllocEr
 }
 
 /// How a session at a ground ends, and after how many looks.
-fn served<W: Wire>(
-    alloc: Global,
-    ground: SoloGround,
-    setup: Setup,
-    wire: &mut W,
-) -> (End, usize) {
+fn served<W: Wire>(alloc: Global, ground: SoloGround, setup: Setup, wire: &mut W) -> (End, usize) {
     let (ground, ended) = serve_session(alloc, ground, setup, wire);
     drop(ground);
     let end = ended.end;

@@ -239,9 +239,7 @@ fn held_and_given_up<R: Wait + Abort + Sync>(
     let two = one.split(gate);
     let other = empty_shelf(alloc)?;
     match room_in_turn(rt, alloc, gate, one) {
-        Ok((one, room)) => Ok(told_between(
-            rt, alloc, gate, one, room, two, other, program,
-        )),
+        Ok((one, room)) => Ok(told_between(rt, alloc, gate, one, room, two, other, program)),
         Err(fail) => {
             drop(two);
             drop(other);
