@@ -3,7 +3,7 @@ use Rattle.std.specs.Prelude.{◌≡◌, ℕ, Bool, List, [], Option, Some, None
 use Rattle.sg_history.specs.declared.entries.Entry.{Entry}
 use Rattle.sg_history.specs.History.{among}
 use Rattle.sg_history.specs.Principals.{has_channel, has_role}
-use Rattle.grant_history.specs.inner.Sorted.{AreSorted}
+use Rattle.log_views.specs.Sorted.{AreSorted}
 use Rattle.sync_meaning.specs.declared.state.Context.{Context}
 
 -- names in their order, each once, which are those of which something holds

@@ -7,7 +7,7 @@ ghost use Rattle.sg_history.specs.History.{entries_of, among};
 ghost use Rattle.sg_history.specs.Principals as principals;
 ghost use Rattle.checkpoint_store.specs.Answers as kept;
 ghost use Rattle.checkpoint_store.specs.Checkpoints.{AreCheckpoints, checkpoint_text};
-ghost use Rattle.grant_history.specs.inner.Sorted.{AreSorted};
+ghost use Rattle.log_views.specs.Sorted.{AreSorted};
 ghost use Rattle.grant_history.specs.Stands.{StandsFor};
 ghost use Rattle.pending_front.specs.Storing.{MayStore};
 ghost use Rattle.rev_tree.specs.Writes.{AreAccepted};

@@ -7,7 +7,7 @@ ghost use Rattle.doc_board.specs.Contexts.{IsContext, IsUserWith};
 ghost use Rattle.sg_history.specs.declared.entries.Entry.{Entry};
 ghost use Rattle.sg_history.specs.History.{among};
 ghost use Rattle.sg_history.specs.Principals.{exists, user_at, has_channel};
-ghost use Rattle.grant_history.specs.inner.Sorted.{AreSorted};
+ghost use Rattle.log_views.specs.Sorted.{AreSorted};
 ghost use Rattle.grant_history.specs.Stands.{StandsFor};
 
 use grant_history::GrantHistory;

@@ -3,7 +3,7 @@
 ghost use Rattle.std.specs.Prelude.{◌≡◌, ◌≤◌, ℕ, List, length, is_some, IfOk, IfSome};
 ghost use Rattle.sg_history.specs.History.{entries_of, past, among};
 ghost use Rattle.sg_history.specs.Principals as principals;
-ghost use Rattle.grant_history.specs.inner.Sorted.{AreSorted};
+ghost use Rattle.log_views.specs.Sorted.{AreSorted};
 ghost use Rattle.grant_history.specs.Stands.{StandsFor};
 
 use grant_history::GrantHistory;

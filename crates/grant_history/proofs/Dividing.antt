@@ -10,6 +10,7 @@ use Rattle.sg_history.specs.Principals.{everyone}
 use Rattle.grant_tracks.specs.declared.things.What.{What}
 use Rattle.grant_tracks.specs.declared.things.What.TheVariants as what
 use Rattle.grant_tracks.specs.declared.held.Held.{Held}
+use Rattle.log_views.specs.Sorted.{AreSorted}
 use Rattle.grant_history.specs.declared.periods.Period.{Period}
 use Rattle.grant_tracks.specs.declared.spells.Spell.{Spell}
 use Rattle.grant_tracks.specs.Tracks.{held_at}
@@ -17,7 +18,6 @@ use Rattle.grant_tracks.specs.Holdings.{Holders, held_in}
 use Rattle.grant_tracks.specs.Reads.{is_channel, channel_among, channel_by, gives_channel, by_roles, list_channel}
 use Rattle.grant_tracks.specs.Spells.{spell_has, spells_have, IsBeforeAll, AreApart}
 use Rattle.grant_history.specs.Periods.{period_has, periods_have, EndsBeforeLater, ArePeriodsApart, HavePlaces, ever_among, ever_by, ever_gives, ever_by_roles, may_have, period_of, period_order, Adds, AreOf, AreSoFar, AreInOrder, AreAllPeriods}
-use Rattle.grant_history.specs.inner.Sorted.{AreSorted}
 use Rattle.sg_names.specs.ItemList.{rises}
 use Rattle.std.specs.Ordering.{nat_cmp, is_lt, is_eq, ordering_then}
 use Rattle.std.specs.Cmp.Lexicographic.{slice_cmp}

@@ -3,4 +3,3 @@ pub mod MoreStates
 pub mod Changes
 pub mod Givers
 pub mod Gifts
-pub mod Sorted

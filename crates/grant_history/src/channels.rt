@@ -4,9 +4,9 @@ ghost use Rattle.std.specs.Prelude.{◌≡◌, ◌||◌, ◌++◌, ◌∷◌, []
 ghost use Rattle.std.specs.Str.{bytes_eq};
 ghost use Rattle.sg_history.specs.History.{among};
 ghost use Rattle.sg_history.specs.Principals as principals;
+ghost use Rattle.log_views.specs.Sorted.{AreSorted};
 ghost use Rattle.grant_history.specs.Periods.{ever_among, ever_by, ever_by_roles, ever_gives, may_have, names_of};
 ghost use Rattle.grant_tracks.specs.Reads.{is_channel};
-ghost use Rattle.grant_history.specs.inner.Sorted.{AreSorted};
 ghost use Rattle.std.specs.BTreeMap.{get_by_text};
 
 use grant_tracks::{Held, Holders, What};

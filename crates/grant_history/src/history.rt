@@ -6,6 +6,7 @@ ghost use Rattle.sg_history.specs.declared.entries.Entry as entry;
 ghost use Rattle.sg_history.specs.History.{among, past};
 ghost use Rattle.sg_history.specs.Principals.{exists, user_at, has_channel, has_role};
 ghost use Rattle.sg_history.specs.Current.{current};
+ghost use Rattle.log_views.specs.Sorted.{AreSorted};
 ghost use Rattle.grant_history.specs.declared.facts.Fact as facts_of;
 ghost use Rattle.grant_history.specs.AppliedLog.{changed_at};
 ghost use Rattle.grant_history.specs.inner.Changes.{IsMarking};
@@ -14,7 +15,6 @@ ghost use Rattle.grant_history.specs.Ledger.{GiveSame, IsLedger, Took};
 ghost use Rattle.grant_history.specs.NewStates.{by_marks};
 ghost use Rattle.grant_history.specs.Store.{has_at};
 ghost use Rattle.grant_history.specs.Periods.{AreInOrder, ArePeriods};
-ghost use Rattle.grant_history.specs.inner.Sorted.{AreSorted};
 ghost use Rattle.grant_history.specs.LedgerAt.{IsNextApplied, LedgerAt};
 ghost use Rattle.grant_history.specs.Stands.{IsIndexed, StandsFor};
 

@@ -4,10 +4,10 @@ ghost use Rattle.std.specs.Prelude.{◌≡◌, ◌++◌, [], ℕ, List, map, IfO
 ghost use Rattle.std.specs.BTreeMap.{get_by_text};
 ghost use Rattle.sg_history.specs.Principals as principals;
 ghost use Rattle.sg_history.specs.History.{among};
+ghost use Rattle.log_views.specs.Sorted.{AreSorted};
 ghost use Rattle.grant_history.specs.Periods.{period_of, names_of, may_have, Adds, AreAllPeriods, AreSoFar};
 ghost use Rattle.grant_history.specs.inner.Gifts.{has_at_by};
 ghost use Rattle.grant_tracks.specs.Reads.{list_channel, user_channel};
-ghost use Rattle.grant_history.specs.inner.Sorted.{AreSorted};
 ghost use Rattle.grant_tracks.specs.Spells.{AreApart, spells_have};
 
 use crate::channels::channels_ever;

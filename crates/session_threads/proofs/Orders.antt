@@ -8,7 +8,7 @@ use Rattle.std.proofs.lemmas.Bool.{and_from}
 use Rattle.std.proofs.lemmas.List.Elements.{All-cons, All-head, All-nil, All-tail}
 use Rattle.sg_names.specs.ItemList.{list_text, rises}
 use Rattle.sg_history.specs.History.{among}
-use Rattle.grant_history.specs.inner.Sorted.{AreSorted}
+use Rattle.log_views.specs.Sorted.{AreSorted}
 use Rattle.board_steps.proofs.NameTexts.{names_utf8}
 use Rattle.session_threads.specs.Opening.{IsSortedOf}
 

@@ -3,7 +3,7 @@ use Rattle.std.specs.Prelude.{◌≡◌, ℕ, List, [], ◌∷◌, ◌++◌, tak
 use Rattle.sg_history.specs.declared.entries.Entry.{Entry}
 use Rattle.sg_history.specs.declared.entries.Entry.TheVariants as entry
 use Rattle.sg_history.specs.History.{among}
-use Rattle.grant_history.specs.inner.Sorted.{AreSorted}
+use Rattle.log_views.specs.Sorted.{AreSorted}
 use Rattle.gateway_config.specs.declared.config.ConfigRole.{ConfigRole}
 use Rattle.gateway_config.specs.declared.config.ConfigUser.{ConfigUser}
 

@@ -13,9 +13,9 @@ use Rattle.repl_messages.specs.declared.looks.Body.TheVariants as body
 use Rattle.repl_messages.specs.Looks.{said_by, left_by_write, body_with}
 use Rattle.log_index.specs.Index.{Indexes}
 use Rattle.log_views.specs.States.{winning, view_by}
+use Rattle.log_views.specs.Sorted.{AreSorted}
 use Rattle.grant_history.specs.declared.periods.Period.{Period}
 use Rattle.grant_history.specs.Periods.{AreInOrder, ArePeriods}
-use Rattle.grant_history.specs.inner.Sorted.{AreSorted}
 use Rattle.feed_rows.specs.LastChange.{place_in}
 use Rattle.feed_rows.specs.PassAt.{IsViewer}
 use Rattle.board_steps.specs.declared.bodies.Look.{Look}

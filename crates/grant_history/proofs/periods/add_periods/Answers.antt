@@ -1,8 +1,8 @@
 use Rattle.std.proofs.Common.{◌≡◌, ◌∙◌, sym, ap, subst, arith, ◌+◌, ◌<◌, ℕ, List, [], ◌∷◌, ◌++◌, take, drop, length, get_or, Bor}
 use Rattle.std.proofs.lemmas.List.{take_more, take_all, length-map, get_or-map}
+use Rattle.log_views.specs.Sorted.{AreSorted}
 use Rattle.grant_history.specs.inner.Gifts.{has_at_by}
 use Rattle.grant_history.specs.Periods.{AreSoFar, names_of}
-use Rattle.grant_history.specs.inner.Sorted.{AreSorted}
 use Rattle.grant_history.proofs.Dividing.{none_so_far, more_so_far, parted}
 use Rattle.grant_history.proofs.periods.add_periods.Goals as goal
 

@@ -1,7 +1,7 @@
 use Rattle.std.proofs.Common.{◌∙◌, ◌≤◌, sym, subst, ap, arith, List, ℕ}
 use Rattle.sg_history.specs.History.{among, past}
+use Rattle.log_views.specs.Sorted.{AreSorted}
 use Rattle.grant_history.specs.AppliedLog.{AppliedLog}
-use Rattle.grant_history.specs.inner.Sorted.{AreSorted}
 use Rattle.grant_history.specs.Stands.{StandsFor}
 use Rattle.grant_history.proofs.Applied.{kept_by_log}
 use Rattle.grant_history.proofs.Reading.{user_roles}
